@@ -7,6 +7,9 @@ ghost use Rattle.std.specs.Prelude.{◌≡◌, ℕ, pos, ◌+ℤ◌, ◌≤ℤ�
 ghost use Rattle.pv_linear.specs.Values.{Values, term_value, number_of, IsWithin, values_of};
 ghost use Rattle.pv_linear.specs.Literal.{Holds, opposite, IsBounded, ShapeHolds, IsShapeBounded, is_ground};
 
+#[cfg(test)]
+mod tests;
+
 use sqlite_items::Items;
 
 /// What a symbol stands for.

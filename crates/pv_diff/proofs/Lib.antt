@@ -1,0 +1,9 @@
+pub mod Climbs
+pub mod Edges
+pub mod Follow
+pub mod Loops
+pub mod Lowered
+pub mod Named
+pub mod Rounds
+pub mod Sums
+pub mod Written

@@ -1,0 +1,5 @@
+pub mod Count
+pub mod Calls
+pub mod Whole
+pub mod Named
+pub mod Memory

@@ -1,0 +1,11 @@
+pub mod Complete
+pub mod CompleteStmt
+pub mod Counts
+pub mod Laws
+pub mod Limits
+pub mod Lists
+pub mod Shrinks
+pub mod Sound
+pub mod Steps
+pub mod Turns
+pub mod Worked

@@ -1,0 +1,5 @@
+pub mod Given
+pub mod Grammar
+pub mod Literals
+pub mod Reading
+pub mod Spelled

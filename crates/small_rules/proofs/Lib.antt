@@ -1,0 +1,4 @@
+pub mod Distinct
+pub mod Endings
+pub mod Extending
+pub mod Marks

@@ -1,0 +1,4 @@
+pub mod StoreLemmas
+pub mod SortLemmas
+pub mod RulesLemmas
+pub mod SearchLemmas

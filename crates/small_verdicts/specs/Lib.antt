@@ -1,0 +1,5 @@
+pub mod Symbolic
+pub mod Sorted
+pub mod Ends
+pub mod Grounded
+pub mod Searching
