@@ -1,5 +1,5 @@
 -- What keeps the rules has its sorts.
-use Rattle.std.proofs.Common.{ℕ, ◌≡◌, Bool, true, false, not, cond, ◌&&◌, refl, sym, ap, ◌∙◌, subst, List, [], ◌∷◌, map, Option, Some, None, is_some, IsTrue}
+use Rattle.std.proofs.Common.{◌≡◌, Bool, true, false, not, ◌&&◌, refl, ap, ◌∙◌, subst, List, [], ◌∷◌, map, Option, Some, None, is_some, IsTrue}
 use Rattle.std.specs.List.{list_all}
 use Rattle.pv_ast.specs.declared.Expr.{Expr}
 use Rattle.pv_ast.specs.declared.Right.{Right}
@@ -10,7 +10,7 @@ use Rattle.pv_ast.specs.declared.Method.{Method}
 use Rattle.pv_ast.specs.declared.Stmt.{Stmt, Stmt-F, ind-Stmt, fold_out-Stmt, fold-roll-Stmt, roll-Stmt, map-Stmt}
 use Rattle.pv_ast.specs.declared.StmtKind.{StmtKind, StmtKind-F, out-StmtKind, roll-StmtKind, fold-roll-StmtKind, fold_out-StmtKind, map-StmtKind}
 use Rattle.small_meaning.specs.Sorts.{sort_of, is_number, is_truth}
-use Rattle.small_meaning.specs.Rules.{Scope, scope_if, scope_then, scope_behind, scope_behind_kind, scope_behind_each, scope_behind_block, scope_in_kind, scope_in_stmt, is_formula, is_term, is_term_kind, is_first_value, is_assignable, is_in_scope, uses_names_of, is_last, is_last_kind, is_return_value, is_body, keeps_behind, is_clause, is_ensures, is_method, are_distinct, names_of}
+use Rattle.small_meaning.specs.Rules.{Scope, scope_if, scope_then, scope_behind, scope_behind_kind, scope_behind_each, scope_in_kind, scope_in_stmt, is_formula, is_term, is_term_kind, is_first_value, is_assignable, is_in_scope, uses_names_of, is_last_kind, is_return_value, is_body, keeps_behind, is_clause, is_ensures, is_method, are_distinct, names_of}
 use Rattle.small_verdicts.specs.Sorted.{is_sorted_stmt, is_sorted_stmt_kind, is_sorted_block, is_sorted_in_kind, is_sorted_in_stmt, is_sorted_right_kind, is_sorted_first, is_sorted_result, all_true, is_sorted_clauses, is_sorted_method}
 
 second : (a b : Bool) → (a && b) ≡ true → b ≡ true

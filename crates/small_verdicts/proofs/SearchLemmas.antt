@@ -1,9 +1,9 @@
 -- From one path to the next.
-use Rattle.std.proofs.Common.{◌≡◌, ◌⊎◌, inl, inr, Bool, true, false, List, refl}
+use Rattle.std.proofs.Common.{◌≡◌, ◌⊎◌, inl, inr, Bool, true, false, List}
 use Rattle.pv_ast.specs.declared.Method.{Method}
 use Rattle.pv_linear.specs.Values.{Values}
-use Rattle.small_meaning.specs.Running.{Meets, run_of, NeverFails}
-use Rattle.small_meaning.specs.Grounds.{Met, PassIsRight, EmptyIsRight}
+use Rattle.small_meaning.specs.Running.{Meets}
+use Rattle.small_meaning.specs.Grounds.{PassIsRight, EmptyIsRight}
 use Rattle.small_paths.specs.declared.Decision.{Decision}
 use Rattle.small_paths.specs.Parts.{Agrees, Stands}
 use Rattle.small_verdicts.specs.Searching.{MeetsOn, SoFar}

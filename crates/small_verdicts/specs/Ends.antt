@@ -1,12 +1,10 @@
 -- How runs end along a path.
-use Rattle.std.specs.Prelude.{◌≡◌, ℕ}
-use Rattle.pv_base.specs.declared.Span.{Span}
 use Rattle.pv_ast.specs.declared.Method.{Method}
 use Rattle.small_meaning.specs.Running.{Arguments, Meets, run_of, NeverFails}
 use Rattle.small_meaning.specs.Grounds.{FailIsRight}
 use Rattle.small_verdicts.specs.declared.method.MethodEnd.{MethodEnd}
 use Rattle.small_verdicts.specs.declared.method.MethodEnd.TheVariants.{Blocked, Passed, Failed}
-use Rattle.small_verdicts.specs.Symbolic.{check_of}
+use Rattle.small_verdicts.specs.Grounded.{check_of}
 
 -- the arguments meet the precondition, and the run does not fail on them
 pub record PassesOn (m : Method) (arguments : Arguments) : Type 0 where

@@ -1,11 +1,17 @@
 -- The ground of a verdict on a small method.
 use Rattle.std.specs.Prelude.{ℤ, pos, List, slice_index_or}
 use Rattle.pv_ast.specs.declared.Method.{Method}
-use Rattle.small_meaning.specs.Running.{Arguments}
+use Rattle.small_meaning.specs.Running.{Arguments, Check, assert_check, ensures_check}
 use Rattle.small_meaning.specs.Grounds.{PassIsRight, EmptyIsRight, FailIsRight}
+use Rattle.small_verdicts.specs.declared.SmallCheck.{SmallCheck}
+use Rattle.small_verdicts.specs.declared.SmallCheck.TheVariants.{Assert, Ensures}
 use Rattle.small_verdicts.specs.declared.SmallVerdict.{SmallVerdict}
 use Rattle.small_verdicts.specs.declared.SmallVerdict.TheVariants.{Pass, Empty, Fail}
-use Rattle.small_verdicts.specs.Symbolic.{check_of}
+
+-- what a check of the code stands for
+abbrev pub check_of : SmallCheck → Check
+check_of Assert = assert_check
+check_of Ensures = ensures_check
 
 -- the number at each place; 0 past the end
 abbrev pub arguments_from : List ℤ → Arguments

@@ -8,7 +8,7 @@ use Rattle.small_paths.specs.declared.Decision.{Decision}
 use Rattle.small_paths.specs.Parts.{Agrees, Stands}
 use Rattle.small_verdicts.specs.declared.verdict.Shown.{Shown}
 use Rattle.small_verdicts.specs.declared.verdict.Shown.TheVariants as shown
-use Rattle.small_verdicts.specs.Symbolic.{check_of}
+use Rattle.small_verdicts.specs.Grounded.{check_of}
 use Rattle.small_verdicts.specs.Grounded.{arguments_from}
 
 -- some arguments meet the precondition, and on none that follow the path does the run fail

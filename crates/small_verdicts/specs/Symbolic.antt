@@ -1,20 +1,18 @@
 -- What symbolic variables and ends stand for, where the symbols have values.
-use Rattle.std.specs.Prelude.{ℕ, ◌+◌, ◌*◌, ◌^◌, max, ℤ, pos, unsigned_abs, Bool, true, false, Option, Some, None, List, [], ◌∷◌}
+use Rattle.std.specs.Prelude.{ℕ, ◌*◌, ◌^◌, max, ℤ, pos, unsigned_abs, Bool, true, false, Option, Some, None, List, [], ◌∷◌}
 use Rattle.std.specs.Ordering.{nat_cmp}
 use Rattle.std.specs.Map.{lookup}
 use Rattle.std.specs.BTreeMap.{is_at}
-use Rattle.pv_base.specs.declared.Span.{Span}
 use Rattle.pv_ast.specs.declared.Operator.{Operator}
 use Rattle.pv_ast.specs.declared.Operator.TheVariants as op
 use Rattle.pv_linear.specs.declared.Term.{Term}
 use Rattle.pv_linear.specs.Values.{Values, term_value}
 use Rattle.small_meaning.specs.Values.{Variables, Scene}
-use Rattle.small_meaning.specs.Running.{Outcome, going, returned, failed, Check, assert_check, ensures_check, is_precondition, is_postcondition}
+use Rattle.small_meaning.specs.Running.{Outcome, going, returned, failed, is_precondition, is_postcondition}
 use Rattle.pv_ast.specs.declared.ClauseKind.{ClauseKind}
 use Rattle.small_verdicts.specs.declared.method.Condition.{Condition}
 use Rattle.small_verdicts.specs.declared.method.Condition.TheVariants.{Before, After}
-use Rattle.small_verdicts.specs.declared.SmallCheck.{SmallCheck}
-use Rattle.small_verdicts.specs.declared.SmallCheck.TheVariants as small
+use Rattle.small_verdicts.specs.Grounded.{check_of}
 use Rattle.small_verdicts.specs.declared.running.Flow.{Flow}
 use Rattle.small_verdicts.specs.declared.running.Flow.TheVariants.{Going, Returned, Failed}
 
@@ -42,10 +40,6 @@ size_of (e ∷ es) = max (unsigned_abs e.1.plus) (size_of es)
 -- how far so many literals may move a term
 abbrev pub weight : ℕ → ℕ
 weight n = 2 ^ 64 * n
-
-abbrev pub check_of : SmallCheck → Check
-check_of small.Assert = assert_check
-check_of small.Ensures = ensures_check
 
 -- what a symbolic end stands for
 abbrev pub outcome_of : Values → Flow → Entries → Outcome

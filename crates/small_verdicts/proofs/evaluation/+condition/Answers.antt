@@ -1,7 +1,7 @@
 use Rattle.std.proofs.Common.{◌≡◌, true, arith, rules, sym, ◌∙◌}
 use Rattle.pv_ast.specs.declared.ExprKind.TheViews as views
 use Rattle.pv_ast.specs.declared.ExprKind.TheFolds as folds
-use Rattle.small_meaning.specs.Sorts.{sort_of, is_truth, is_number}
+use Rattle.small_meaning.specs.Sorts.{sort_of, is_truth}
 use Rattle.small_verdicts.proofs.SortLemmas.{truth_parts, equal_parts, differ_parts, order_parts, literals_of_binary}
 use Rattle.pv_linear.proofs.Bounds.{within_abs, within_more}
 use Rattle.small_verdicts.proofs.evaluation.+condition.Goals as goal
