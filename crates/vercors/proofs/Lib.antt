@@ -1,0 +1,4 @@
+pub mod JudgedLemmas
+pub mod TextLemmas
+pub mod VerdictLemmas
+pub mod AnswerLemmas

@@ -1,0 +1,7 @@
+use Rattle.std.proofs.Common.{◌≡◌, take}
+use Rattle.std.specs.List.{flat_map}
+use Rattle.vercors.specs.Output.{verdict_line}
+use Rattle.vercors.proofs.report.report.Given as goal
+
+abbrev pub invariant-loop-one : goal.invariant-loop-one
+invariant-loop-one l = l.output.items ≡ flat_map (verdict_line l.text l.names) (take l.one-index l.judged)

@@ -1,0 +1,7 @@
+pub mod Words
+pub mod Texts
+pub mod Units
+pub mod Output
+pub mod Answers
+pub mod Faults
+pub mod Loading

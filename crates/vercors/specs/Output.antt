@@ -1,0 +1,88 @@
+-- What is printed, byte by byte. Every line ends with a line feed.
+use Rattle.std.specs.Prelude.{ℕ, Bool, true, false, List, [], ◌∷◌, ◌++◌, slice_get, unwrap_or, codes, if◌then◌else◌}
+use Rattle.std.specs.Fmt.{decimal}
+use Rattle.std.specs.List.{flat_map, list_any}
+use Rattle.pv_base.specs.declared.Name.{Name}
+use Rattle.pv_base.specs.declared.Span.{Span}
+use Rattle.pv_base.specs.Place.{line_at, column_at}
+use Rattle.small_verdicts.specs.declared.SmallCheck.{SmallCheck}
+use Rattle.small_verdicts.specs.declared.SmallCheck.TheVariants.{Assert, Ensures}
+use Rattle.small_verdicts.specs.declared.SmallVerdict.{SmallVerdict}
+use Rattle.small_verdicts.specs.declared.SmallVerdict.TheVariants.{Pass, Empty, Fail}
+use Rattle.vercors.specs.declared.ending.Status.{Status}
+use Rattle.vercors.specs.declared.ending.Status.TheVariants as status
+use Rattle.vercors.specs.declared.judging.Judged.{Judged}
+
+abbrev pub line_of : List ℕ → List ℕ
+line_of words = words ++ 10 ∷ []
+
+abbrev pub usage_line : List ℕ
+usage_line = line_of (codes "usage: vercors verify FILE | run FILE SCHEDULE | explain FILE UNIT | big N")
+
+abbrev pub no_file_line : List ℕ
+no_file_line = line_of (codes "NoFile")
+
+abbrev pub read_fault_line : List ℕ
+read_fault_line = line_of (codes "ReadFault")
+
+abbrev pub too_large_line : List ℕ
+too_large_line = line_of (codes "TooLarge")
+
+abbrev pub not_built_line : List ℕ
+not_built_line = line_of (codes "TextRefused NotBuilt")
+
+-- the text of a name
+abbrev pub name_text : List (List ℕ) → Name → List ℕ
+name_text names name = unwrap_or (slice_get names name.0) []
+
+-- a unit, as `Class.method`
+abbrev pub unit_text : List (List ℕ) → Judged → List ℕ
+unit_text names j = name_text names j.class ++ codes "." ++ name_text names j.method
+
+-- a place, as `L:C`
+abbrev pub place_text : List ℕ → ℕ → List ℕ
+place_text text at = decimal (line_at text at) ++ codes ":" ++ decimal (column_at text at)
+
+-- a span, as `L:C-L:C`: its first place, and the one just after the last
+abbrev pub span_text : List ℕ → Span → List ℕ
+span_text text span = place_text text span.from ++ codes "-" ++ place_text text span.to
+
+abbrev pub check_text : SmallCheck → List ℕ
+check_text Assert = codes "Assert "
+check_text Ensures = codes "Ensures "
+
+-- what stands before the unit of a verdict
+abbrev pub text_before : SmallVerdict → List ℕ
+text_before Pass = codes "Pass "
+text_before Empty = codes "Empty "
+text_before (Fail check span numbers) = codes "Fail " ++ check_text check
+
+-- what stands behind it
+abbrev pub text_behind : List ℕ → SmallVerdict → List ℕ
+text_behind text Pass = []
+text_behind text Empty = []
+text_behind text (Fail check span numbers) = codes " " ++ span_text text span
+
+-- the line of a verdict: `Pass UNIT`, `Empty UNIT` or `Fail CHECK UNIT SPAN`
+abbrev pub verdict_line : List ℕ → List (List ℕ) → Judged → List ℕ
+verdict_line text names j = line_of (text_before j.verdict ++ unit_text names j ++ text_behind text j.verdict)
+
+abbrev pub is_fail : SmallVerdict → Bool
+is_fail Pass = false
+is_fail Empty = false
+is_fail (Fail check span numbers) = true
+
+-- whether some verdict is Fail
+abbrev pub some_fail : List Judged → Bool
+some_fail judged = list_any (λ j. is_fail j.verdict) judged
+
+abbrev pub last_line : Bool → List ℕ
+last_line fails = if fails then line_of (codes "Refused") else line_of (codes "Pass")
+
+-- a line for each verdict, and the last line by whether some verdict is Fail
+abbrev pub report_of : List ℕ → List (List ℕ) → List Judged → List ℕ
+report_of text names judged = flat_map (verdict_line text names) judged ++ last_line (some_fail judged)
+
+-- the status by the verdicts
+abbrev pub status_of : List Judged → Status
+status_of judged = if some_fail judged then status.Refused else status.Passed

@@ -1,0 +1,124 @@
+//! The answer to the words, before any of it is written.
+ghost use Rattle.std.specs.Prelude.{◌≡◌, ◌↔◌, ◌≤◌, ◌<◌, ◌^◌, length, IfOk};
+ghost use Rattle.pv_io.specs.Count.{HasRisen, last_count};
+ghost use Rattle.pv_ast.specs.Measures.{literals_of_program};
+ghost use Rattle.vercors.specs.Words.{NoVerify};
+ghost use Rattle.vercors.specs.Texts.{SpellsSmallProgram, SpellsOnly};
+ghost use Rattle.vercors.specs.Loading.{IsFaultAnswer};
+ghost use Rattle.vercors.specs.Answers.{limit, IsTextAnswer, IsFileAnswer, IsAnswer, told_of};
+
+use crate::command::{Words, file_to_verify};
+use crate::ending::{Answer, Status};
+use crate::judging::judge;
+use crate::reading::{TextFault, read_program};
+use crate::report::{report, status_of};
+use pv_ast::Program;
+use pv_base::NoMemory;
+use pv_io::{LoadFault, Shelf, load};
+use pv_names::Names;
+use small_meaning::safe_where_no_run_fails;
+use sqlite_items::Items;
+use std::alloc::Global;
+
+/// How many bytes a file may have.
+const LIMIT: u32 = 1_048_576;
+
+const USAGE: &[u8] =
+    b"usage: vercors verify FILE | run FILE SCHEDULE | explain FILE UNIT | big N\n";
+
+const NO_FILE: &[u8] = b"NoFile\n";
+
+const READ_FAULT: &[u8] = b"ReadFault\n";
+
+const TOO_LARGE: &[u8] = b"TooLarge\n";
+
+const NOT_BUILT: &[u8] = b"TextRefused NotBuilt\n";
+
+/// The answer of one line.
+fn one_line(alloc: Global, status: Status, line: &[u8]) -> Result<Answer, NoMemory>
+    ensures status { IfOk result (λ answer. answer.status ≡ status) }
+    ensures output { IfOk result (λ answer. answer.output ≡ line.now) }
+{
+    let output = Items::from_slice(alloc, line)?;
+    Ok(Answer { status, output })
+}
+
+/// The answer to a text that spells the program.
+fn answer_to_program(
+    alloc: Global,
+    text: &[u8],
+    names: &Names,
+    program: &Program,
+) -> Result<Answer, NoMemory>
+    requires short { length text.now ≤ limit }
+    requires spelled { SpellsSmallProgram text.now names.now program.now }
+    requires one { SpellsOnly text.now program.now }
+    requires few { literals_of_program program.now ≤ 2 ^ 20 }
+    ensures { IfOk result (λ answer. IsTextAnswer text.now answer.status answer.output) }
+{
+    safe_where_no_run_fails();
+    let judged = judge(alloc, program)?;
+    let status = status_of(judged.as_slice());
+    let output = report(alloc, text, names, judged.as_slice())?;
+    Ok(Answer { status, output })
+}
+
+/// The answer to a text.
+fn answer_to_text(alloc: Global, text: &[u8]) -> Result<Answer, NoMemory>
+    requires { length text.now ≤ limit }
+    ensures { IfOk result (λ answer. IsTextAnswer text.now answer.status answer.output) }
+{
+    let mut names = Names::new(alloc);
+    match read_program(alloc, text, &mut names) {
+        Ok(program) => answer_to_program(alloc, text, &names, &program),
+        Err(TextFault::NotBuilt) => one_line(alloc, Status::TextRefused, NOT_BUILT),
+        Err(TextFault::NoMemory) => Err(NoMemory),
+    }
+}
+
+/// The answer where a file was not loaded.
+fn answer_to_fault(alloc: Global, fault: LoadFault) -> Result<Answer, NoMemory>
+    ensures { IfOk result (λ answer. IsFaultAnswer fault answer.status answer.output) }
+{
+    match fault {
+        LoadFault::NoFile => one_line(alloc, Status::NoFile, NO_FILE),
+        LoadFault::TooLarge => one_line(alloc, Status::TooLarge, TOO_LARGE),
+        LoadFault::Failed => one_line(alloc, Status::ReadFault, READ_FAULT),
+        LoadFault::NoMemory => Err(NoMemory),
+    }
+}
+
+/// The answer to the file of that name.
+fn answer_to_file<F: Shelf>(alloc: Global, file: &[u8], shelf: &mut F) -> Result<Answer, NoMemory>
+    requires hits_left { F.hits shelf.old < last_count }
+    requires misses_left { F.misses shelf.old < last_count }
+    ensures right { IfOk result (λ answer. IsFileAnswer (told_of (F.files shelf.old) file.now) answer.status answer.output) }
+    ensures no_file { IfOk result (λ answer. (answer.status ≡ Status.NoFile) ↔ (F.misses shelf.old < F.misses shelf.new)) }
+    ensures too_large { IfOk result (λ answer. (answer.status ≡ Status.TooLarge) ↔ ((F.hits shelf.old < F.hits shelf.new) × (limit < F.taken shelf.new))) }
+    ensures read_fault { IfOk result (λ answer. answer.status ≡ Status.ReadFault → HasRisen (F.faults shelf.old) (F.faults shelf.new)) }
+    ensures keeps_files { F.files shelf.new ≡ F.files shelf.old }
+    ensures never_falls { F.faults shelf.old ≤ F.faults shelf.new }
+{
+    match load(alloc, shelf, file, LIMIT) {
+        Ok(text) => answer_to_text(alloc, text.as_slice()),
+        Err(fault) => answer_to_fault(alloc, fault),
+    }
+}
+
+/// The answer to the words.
+pub fn answer_to<F: Shelf>(alloc: Global, words: &Words, shelf: &mut F) -> Result<Answer, NoMemory>
+    requires hits_left { F.hits shelf.old < last_count }
+    requires misses_left { F.misses shelf.old < last_count }
+    ensures right { IfOk result (λ answer. IsAnswer (F.files shelf.old) words.now answer.status answer.output) }
+    ensures words_wrong { IfOk result (λ answer. (answer.status ≡ Status.WordsWrong) ↔ NoVerify words.now) }
+    ensures no_file { IfOk result (λ answer. (answer.status ≡ Status.NoFile) ↔ (F.misses shelf.old < F.misses shelf.new)) }
+    ensures too_large { IfOk result (λ answer. (answer.status ≡ Status.TooLarge) ↔ ((F.hits shelf.old < F.hits shelf.new) × (limit < F.taken shelf.new))) }
+    ensures read_fault { IfOk result (λ answer. answer.status ≡ Status.ReadFault → HasRisen (F.faults shelf.old) (F.faults shelf.new)) }
+    ensures keeps_files { F.files shelf.new ≡ F.files shelf.old }
+    ensures never_falls { F.faults shelf.old ≤ F.faults shelf.new }
+{
+    match file_to_verify(words) {
+        Some(file) => answer_to_file(alloc, file, shelf),
+        None => one_line(alloc, Status::WordsWrong, USAGE),
+    }
+}

@@ -1,0 +1,185 @@
+ghost use Rattle.std.specs.Prelude.{◌≡◌, IfOk};
+
+use crate::call::vercors;
+use crate::command::Words;
+use crate::ending::Status;
+use pv_io::{Bytes, FileEntry, Files, MemoryShelf, MemorySink};
+use sqlite_items::Items;
+use std::alloc::{AllocError, Global};
+use std::test::Fail;
+
+const USAGE: &[u8] =
+    b"usage: vercors verify FILE | run FILE SCHEDULE | explain FILE UNIT | big N\n";
+
+const NEXT: &[u8] = b"class Abs {
+  requires 0 <= x;
+  ensures \\result == x + 1;
+  int next(int x) {
+    int y = x + 1;
+    assert 1 <= y;
+    return y;
+  }
+}
+";
+
+const FAILING: &[u8] = b"class Abs {
+  requires 0 <= x;
+  ensures \\result == x + 1;
+  int next(int x) {
+    int y = x + 1;
+    assert 2 <= y;
+    return y;
+  }
+}
+";
+
+const UNMET: &[u8] = b"class Abs {
+  requires 0 <= x && x < 0;
+  ensures \\result == x + 1;
+  int next(int x) {
+    return x;
+  }
+}
+";
+
+const LOOPING: &[u8] = b"class Abs {
+  int next(int x) {
+    while (1 <= x) { }
+    return x;
+  }
+}
+";
+
+/// The calls of the shelf and of the sink that fail, and those of the sink that take nothing.
+#[derive(Clone, Copy)]
+struct Faults<'a> {
+    reads: &'a [u64],
+    writes: &'a [u64],
+    empties: &'a [u64],
+}
+
+const NONE: Faults = Faults {
+    reads: &[],
+    writes: &[],
+    empties: &[],
+};
+
+fn shelf(alloc: Global, text: &[u8], fails: &[u64]) -> Result<MemoryShelf, AllocError>
+    ensures hits { IfOk result (λ shelf. shelf.hits ≡ 0) }
+    ensures misses { IfOk result (λ shelf. shelf.misses ≡ 0) }
+{
+    let mut files = Files::new(alloc);
+    files.push(FileEntry {
+        name: Items::from_slice(alloc, b"next.pvl")?,
+        bytes: Items::from_slice(alloc, text)?,
+    })?;
+    Ok(MemoryShelf::new(alloc, files, Items::from_slice(alloc, fails)?))
+}
+
+fn words_of(alloc: Global, words: &[&[u8]]) -> Result<Words, AllocError> {
+    let mut all = Words::new(alloc);
+    for word in words {
+        all.push(Items::from_slice(alloc, word)?)?;
+    }
+    Ok(all)
+}
+
+/// How a call ends, and what it writes.
+fn run(
+    alloc: Global,
+    words: &[&[u8]],
+    text: &[u8],
+    faults: Faults,
+) -> Result<(Status, Bytes), Fail> {
+    let words = words_of(alloc, words)?;
+    let mut shelf = shelf(alloc, text, faults.reads)?;
+    let fails = Items::from_slice(alloc, faults.writes)?;
+    let empties = Items::from_slice(alloc, faults.empties)?;
+    let mut sink = MemorySink::new(alloc, 4096, fails, empties)?;
+    let status = vercors(alloc, &words, &mut shelf, &mut sink);
+    Ok((status, Items::from_slice(alloc, sink.written())?))
+}
+
+fn verify(alloc: Global, text: &[u8], faults: Faults) -> Result<(Status, Bytes), Fail> {
+    run(alloc, &[b"verify", b"next.pvl"], text, faults)
+}
+
+#[test]
+fn texts(rt: HostRuntime) -> Result<(), Fail> {
+    let rows: [(&[u8], Status, &[u8]); 5] = [
+        (NEXT, Status::Passed, b"Pass Abs.next\nPass\n"),
+        (
+            FAILING,
+            Status::Refused,
+            b"Fail Assert Abs.next 6:12-6:18\nRefused\n",
+        ),
+        (UNMET, Status::Passed, b"Empty Abs.next\nPass\n"),
+        (LOOPING, Status::TextRefused, b"TextRefused NotBuilt\n"),
+        (b"", Status::TextRefused, b"TextRefused NotBuilt\n"),
+    ];
+    for (text, status, output) in rows {
+        let (answer, written) = verify(rt.alloc(), text, NONE)?;
+        assert_eq!(rt; answer, status);
+        assert_eq!(rt; written.as_slice(), output);
+    }
+    Ok(())
+}
+
+#[test]
+fn failing_calls(rt: HostRuntime) -> Result<(), Fail> {
+    let (status, written) = verify(
+        rt.alloc(),
+        NEXT,
+        Faults {
+            reads: &[3],
+            ..NONE
+        },
+    )?;
+    assert_eq!(rt; status, Status::ReadFault);
+    assert_eq!(rt; written.as_slice(), b"ReadFault\n".as_slice());
+    for faults in [
+        Faults {
+            writes: &[1],
+            ..NONE
+        },
+        Faults {
+            empties: &[1],
+            ..NONE
+        },
+    ] {
+        let (status, written) = verify(rt.alloc(), NEXT, faults)?;
+        assert_eq!(rt; status, Status::WriteFault);
+        assert!(rt; written.is_empty());
+    }
+    Ok(())
+}
+
+#[test]
+fn wrong_words(rt: HostRuntime) -> Result<(), Fail> {
+    let rows: [&[&[u8]]; 6] = [
+        &[],
+        &[b"verify"],
+        &[b"verify", b""],
+        &[b"verify", b"-x"],
+        &[b"verify", b"\xff"],
+        &[b"explain", b"next.pvl", b"Abs.next"],
+    ];
+    for words in rows {
+        let (status, written) = run(rt.alloc(), words, NEXT, NONE)?;
+        assert_eq!(rt; status, Status::WordsWrong);
+        assert_eq!(rt; written.as_slice(), USAGE);
+    }
+    Ok(())
+}
+
+#[test]
+fn files(rt: HostRuntime) -> Result<(), Fail> {
+    let (status, written) = run(rt.alloc(), &[b"verify", b"none.pvl"], NEXT, NONE)?;
+    assert_eq!(rt; status, Status::NoFile);
+    assert_eq!(rt; written.as_slice(), b"NoFile\n".as_slice());
+    let spaces = vec![in rt.alloc(); b' '; 1_048_577]?;
+    let (status, written) = verify(rt.alloc(), spaces.as_slice(), NONE)?;
+    assert_eq!(rt; status, Status::TooLarge);
+    assert_eq!(rt; written.as_slice(), b"TooLarge\n".as_slice());
+    Ok(())
+}
