@@ -4,7 +4,7 @@ ghost use Rattle.std.specs.Prelude.{◌≡◌, ◌+◌, ◌≤◌, ◌^◌, ◌|
 ghost use Rattle.pv_ast.specs.Measures.{literals_of};
 ghost use Rattle.pv_linear.specs.Values.{Values, term_value, IsWithin};
 ghost use Rattle.small_meaning.specs.Sorts.{sort_of, is_literal, is_number, is_truth};
-ghost use Rattle.small_meaning.specs.Values.{Scene, value_of, value_of_operator, int_eq, broken_of, number, truth};
+ghost use Rattle.small_meaning.specs.Values.{Scene, value_of, value_of_operator, int_eq, are_equal, broken_of, number, truth};
 ghost use Rattle.small_paths.specs.Asking.{Asks, Under};
 ghost use Rattle.small_verdicts.specs.Symbolic.{scene_at, size_of, is_sum, is_order, weight};
 
@@ -135,6 +135,48 @@ fn compare<K: Asker>(op: Operator, a: Term, b: Term, asker: &mut K) -> Result<bo
     }
 }
 
+/// Whether two numbers of a formula are equal. `returned` stands for `\result`.
+fn equal_numbers<K: Asker>(
+    a: &Expr,
+    b: &Expr,
+    store: &Store,
+    returned: Term,
+    asker: &mut K,
+) -> Result<bool, NoMemory>
+    requires first { is_number (sort_of a.now) ≡ true }
+    requires second { is_number (sort_of b.now) ≡ true }
+    requires size { size_of store.now.terms.entries + unsigned_abs returned.plus + weight (literals_of a.now + literals_of b.now) ≤ 2 ^ 97 }
+    ensures asks { OnOk result (Asks K.follows K.stands asker.old asker.new) }
+    ensures says { IfOk result (λ told. Under K.follows asker.new (λ v. are_equal (value_of a.now (scene_at v store.now.terms.entries returned)) (value_of b.now (scene_at v store.now.terms.entries returned)) ≡ told)) }
+{
+    let first = term(a, store, returned);
+    let second = term(b, store, returned);
+    let told = ask_equal(first, second, asker)?;
+    Ok(told)
+}
+
+/// What a comparison of the order of two numbers of a formula comes to. `returned` stands for `\result`.
+fn ordered_numbers<K: Asker>(
+    op: Operator,
+    a: &Expr,
+    b: &Expr,
+    store: &Store,
+    returned: Term,
+    asker: &mut K,
+) -> Result<bool, NoMemory>
+    requires order { is_order op ≡ true }
+    requires first { is_number (sort_of a.now) ≡ true }
+    requires second { is_number (sort_of b.now) ≡ true }
+    requires size { size_of store.now.terms.entries + unsigned_abs returned.plus + weight (literals_of a.now + literals_of b.now) ≤ 2 ^ 97 }
+    ensures asks { OnOk result (Asks K.follows K.stands asker.old asker.new) }
+    ensures says { IfOk result (λ told. Under K.follows asker.new (λ v. value_of_operator op (value_of a.now (scene_at v store.now.terms.entries returned)) (value_of b.now (scene_at v store.now.terms.entries returned)) ≡ truth told)) }
+{
+    let first = term(a, store, returned);
+    let second = term(b, store, returned);
+    let told = compare(op, first, second, asker)?;
+    Ok(told)
+}
+
 /// Whether a truth value is true. `returned` stands for `\result`.
 pub fn condition<K: Asker>(
     e: &Expr,
@@ -170,11 +212,7 @@ pub fn condition<K: Asker>(
             }
             Operator::Eq => {
                 if is_number_expr(a.get()) {
-                    let told = ask_equal(
-                        term(a.get(), store, returned),
-                        term(b.get(), store, returned),
-                        asker,
-                    )?;
+                    let told = equal_numbers(a.get(), b.get(), store, returned, asker)?;
                     return Ok(told);
                 }
                 let first = condition(a.get(), store, returned, asker)?;
@@ -183,11 +221,7 @@ pub fn condition<K: Asker>(
             }
             Operator::Ne => {
                 if is_number_expr(a.get()) {
-                    let told = ask_equal(
-                        term(a.get(), store, returned),
-                        term(b.get(), store, returned),
-                        asker,
-                    )?;
+                    let told = equal_numbers(a.get(), b.get(), store, returned, asker)?;
                     return Ok(!told);
                 }
                 let first = condition(a.get(), store, returned, asker)?;
@@ -195,12 +229,7 @@ pub fn condition<K: Asker>(
                 Ok(first != second)
             }
             _ => {
-                let told = compare(
-                    *op,
-                    term(a.get(), store, returned),
-                    term(b.get(), store, returned),
-                    asker,
-                )?;
+                let told = ordered_numbers(*op, a.get(), b.get(), store, returned, asker)?;
                 Ok(told)
             }
         },
