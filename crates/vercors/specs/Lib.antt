@@ -5,3 +5,4 @@ pub mod Output
 pub mod Answers
 pub mod Faults
 pub mod Loading
+pub mod Positions

@@ -1,11 +1,12 @@
 //! The parts of lines, put behind what is to be written.
 ghost use Rattle.std.specs.Prelude.{◌≡◌, ◌≤◌, ◌^◌, ◌++◌, length, OnOk};
 ghost use Rattle.std.specs.Fmt.{decimal};
-ghost use Rattle.pv_base.specs.Place.{line_at, column_at};
 ghost use Rattle.vercors.specs.Output.{name_text, place_text, span_text, check_text};
+ghost use Rattle.vercors.specs.Positions.{IsPosition};
 
+use crate::places::{Position, position_of};
 use itoa::Buffer;
-use pv_base::{Name, Span, line_col};
+use pv_base::{Name, Span};
 use pv_names::Names;
 use small_verdicts::SmallCheck;
 use std::alloc::AllocError;
@@ -36,34 +37,39 @@ fn put_number(output: &mut Vec<u8>, number: u32) -> Result<(), AllocError>
     output.extend_from_slice(buffer.format(number).as_bytes())
 }
 
-/// The line and column of a place; past the end of the text, of its end.
-fn place_of(text: &[u8], at: u32) -> (u32, u32)
-    requires { length text.now ≤ 2 ^ 20 }
-    ensures line { result.0 ≡ line_at text.now at }
-    ensures column { result.1 ≡ column_at text.now at }
+/// Puts a place last, and makes its position the near one.
+fn put_place(
+    output: &mut Vec<u8>,
+    text: &[u8],
+    at: u32,
+    near: &mut Position,
+) -> Result<(), AllocError>
+    requires short { length text.now ≤ 2 ^ 20 }
+    requires near { IsPosition text.now near.old }
+    ensures put { OnOk result (output.new.items ≡ output.old.items ++ place_text text.now at) }
+    ensures near { IsPosition text.now near.new }
 {
-    line_col(text, at.min(text.len() as u32))
-}
-
-/// Puts a place last.
-fn put_place(output: &mut Vec<u8>, text: &[u8], at: u32) -> Result<(), AllocError>
-    requires { length text.now ≤ 2 ^ 20 }
-    ensures { OnOk result (output.new.items ≡ output.old.items ++ place_text text.now at) }
-{
-    let (line, column) = place_of(text, at);
-    put_number(output, line)?;
+    *near = position_of(text, *near, at);
+    put_number(output, near.line)?;
     output.extend_from_slice(b":")?;
-    put_number(output, column)
+    put_number(output, near.column)
 }
 
-/// Puts a span last.
-pub fn put_span(output: &mut Vec<u8>, text: &[u8], span: Span) -> Result<(), AllocError>
-    requires { length text.now ≤ 2 ^ 20 }
-    ensures { OnOk result (output.new.items ≡ output.old.items ++ span_text text.now span) }
+/// Puts a span last, and makes the position of its end the near one.
+pub fn put_span(
+    output: &mut Vec<u8>,
+    text: &[u8],
+    span: Span,
+    near: &mut Position,
+) -> Result<(), AllocError>
+    requires short { length text.now ≤ 2 ^ 20 }
+    requires near { IsPosition text.now near.old }
+    ensures put { OnOk result (output.new.items ≡ output.old.items ++ span_text text.now span) }
+    ensures near { IsPosition text.now near.new }
 {
-    put_place(output, text, span.from)?;
+    put_place(output, text, span.from, near)?;
     output.extend_from_slice(b"-")?;
-    put_place(output, text, span.to)
+    put_place(output, text, span.to, near)
 }
 
 /// What is shown of a check.

@@ -9,6 +9,7 @@ mod command;
 mod ending;
 mod judging;
 mod lines;
+mod places;
 mod reading;
 mod report;
 #[cfg(test)]

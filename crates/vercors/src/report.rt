@@ -1,10 +1,12 @@
 //! The report of verdicts.
 ghost use Rattle.std.specs.Prelude.{◌≡◌, ◌≤◌, ◌^◌, ◌++◌, length, IfOk, OnOk};
 ghost use Rattle.vercors.specs.Output.{unit_text, text_before, text_behind, verdict_line, is_fail, some_fail, last_line, report_of, status_of};
+ghost use Rattle.vercors.specs.Positions.{IsPosition};
 
 use crate::ending::Status;
 use crate::judging::Judged;
 use crate::lines::{put_name, put_span, text_of_check};
+use crate::places::{Position, START};
 use pv_io::Bytes;
 use pv_names::Names;
 use small_verdicts::SmallVerdict;
@@ -26,15 +28,22 @@ fn put_before(output: &mut Vec<u8>, verdict: &SmallVerdict) -> Result<(), AllocE
 }
 
 /// Puts what stands behind the unit of a verdict last.
-fn put_behind(output: &mut Vec<u8>, text: &[u8], verdict: &SmallVerdict) -> Result<(), AllocError>
-    requires { length text.now ≤ 2 ^ 20 }
-    ensures { OnOk result (output.new.items ≡ output.old.items ++ text_behind text.now verdict.now) }
+fn put_behind(
+    output: &mut Vec<u8>,
+    text: &[u8],
+    verdict: &SmallVerdict,
+    near: &mut Position,
+) -> Result<(), AllocError>
+    requires short { length text.now ≤ 2 ^ 20 }
+    requires near { IsPosition text.now near.old }
+    ensures put { OnOk result (output.new.items ≡ output.old.items ++ text_behind text.now verdict.now) }
+    ensures near { IsPosition text.now near.new }
 {
     match verdict {
         SmallVerdict::Pass | SmallVerdict::Empty => Ok(()),
         SmallVerdict::Fail(_, span, _) => {
             output.extend_from_slice(b" ")?;
-            put_span(output, text, *span)
+            put_span(output, text, *span, near)
         }
     }
 }
@@ -54,13 +63,16 @@ fn put_line(
     text: &[u8],
     names: &Names,
     judged: &Judged,
+    near: &mut Position,
 ) -> Result<(), AllocError>
-    requires { length text.now ≤ 2 ^ 20 }
-    ensures { OnOk result (output.new.items ≡ output.old.items ++ verdict_line text.now names.now judged.now) }
+    requires short { length text.now ≤ 2 ^ 20 }
+    requires near { IsPosition text.now near.old }
+    ensures put { OnOk result (output.new.items ≡ output.old.items ++ verdict_line text.now names.now judged.now) }
+    ensures near { IsPosition text.now near.new }
 {
     put_before(output, &judged.verdict)?;
     put_unit(output, names, judged)?;
-    put_behind(output, text, &judged.verdict)?;
+    put_behind(output, text, &judged.verdict, near)?;
     output.extend_from_slice(b"\n")
 }
 
@@ -99,7 +111,7 @@ fn last_line(fails: bool) -> &'static [u8]
     if fails { b"Refused\n" } else { b"Pass\n" }
 }
 
-/// A line for each verdict, and the last line.
+/// A line for each verdict, and the last line. One pass over the text, where the verdicts are in its order.
 pub fn report(
     alloc: Global,
     text: &[u8],
@@ -110,8 +122,9 @@ pub fn report(
     ensures { IfOk result (λ output. output ≡ report_of text.now names.now judged.now) }
 {
     let mut output = Vec::new(alloc);
+    let mut near = START;
     for one in judged {
-        put_line(&mut output, text, names, one)?;
+        put_line(&mut output, text, names, one, &mut near)?;
     }
     output.extend_from_slice(last_line(some_fail(judged)))?;
     Ok(Items::from_vec(output))

@@ -33,6 +33,9 @@ const FAILING: &[u8] = b"class Abs {
 }
 ";
 
+const TWO_FAIL: &[u8] =
+    b"class C {\n  void a() { assert 1 < 0; }\n  void b() { assert 0 < 0; }\n}\n";
+
 const UNMET: &[u8] = b"class Abs {
   requires 0 <= x && x < 0;
   ensures \\result == x + 1;
@@ -106,12 +109,17 @@ fn verify(alloc: Global, text: &[u8], faults: Faults) -> Result<(Status, Bytes),
 
 #[test]
 fn texts(rt: HostRuntime) -> Result<(), Fail> {
-    let rows: [(&[u8], Status, &[u8]); 5] = [
+    let rows: [(&[u8], Status, &[u8]); 6] = [
         (NEXT, Status::Passed, b"Pass Abs.next\nPass\n"),
         (
             FAILING,
             Status::Refused,
             b"Fail Assert Abs.next 6:12-6:18\nRefused\n",
+        ),
+        (
+            TWO_FAIL,
+            Status::Refused,
+            b"Fail Assert C.a 2:21-2:26\nFail Assert C.b 3:21-3:26\nRefused\n",
         ),
         (UNMET, Status::Passed, b"Empty Abs.next\nPass\n"),
         (LOOPING, Status::TextRefused, b"TextRefused NotBuilt\n"),

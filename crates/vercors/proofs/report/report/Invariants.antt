@@ -1,7 +1,12 @@
 use Rattle.std.proofs.Common.{◌≡◌, take}
 use Rattle.std.specs.List.{flat_map}
 use Rattle.vercors.specs.Output.{verdict_line}
+use Rattle.vercors.specs.Positions.{IsPosition}
 use Rattle.vercors.proofs.report.report.Given as goal
 
 abbrev pub invariant-loop-one : goal.invariant-loop-one
-invariant-loop-one l = l.output.items ≡ flat_map (verdict_line l.text l.names) (take l.one-index l.judged)
+invariant-loop-one l =
+    record {
+      printed : l.output.items ≡ flat_map (verdict_line l.text l.names) (take l.one-index l.judged);
+      near : IsPosition l.text l.near;
+    }
