@@ -1,17 +1,17 @@
 -- Parts and decisions.
-use Rattle.std.proofs.Common.{length, ◌≡◌, ℕ, ◌≤◌, List, [], ◌∷◌, ◌++◌, ◌⊎◌, inl, inr, arith, ◌+ℤ◌, sym, subst, zero, suc, slice_index_or, ◌<◌, true, false, Bool, cond}
+use Rattle.std.proofs.Common.{length, ◌≡◌, ℕ, ◌+◌, ◌≤◌, List, [], ◌∷◌, ◌++◌, ◌⊎◌, inl, inr, arith, ◌+ℤ◌, subst, zero, suc, slice_index_or, ◌<◌, true, false, Bool, cond}
 use Rattle.std.proofs.lemmas.Int.{ints, by_lt_z}
 use Rattle.std.specs.Prelude.{max}
 use Rattle.pv_linear.proofs.Bounds.{bound_of_bounded, bound_of_all-append}
 use Rattle.pv_linear.proofs.MeetsLemmas.{opposite_denies}
 use Rattle.pv_linear.specs.declared.Literal.{Literal}
 use Rattle.pv_linear.specs.Values.{Values, number_of}
-use Rattle.pv_linear.specs.Literal.{Holds, Meets, opposite, IsBounded, bound_of, bound_of_all}
-use Rattle.pv_diff.specs.Answer.{AllAtMost, IsAtMost}
+use Rattle.pv_linear.specs.Literal.{Holds, Meets, opposite, IsBounded, bound_of_all}
+use Rattle.pv_diff.specs.Answer.{AllAtMost}
 use Rattle.small_paths.specs.declared.Difference.{Difference}
 use Rattle.small_paths.specs.declared.Decision.{Decision}
 use Rattle.small_paths.specs.declared.Decision.TheVariants.{Open, Closed}
-use Rattle.small_paths.specs.Parts.{On, Off, Agrees, Waits, Stands, literal_of, literal_in, literals_of, decision_bound, decisions_bound}
+use Rattle.small_paths.specs.Parts.{On, Off, Agrees, Waits, Stands, literal_of, literal_in, literals_of, decision_bound, decisions_bound, open_side, open_sides}
 
 -- what agrees with the decisions meets their literals, and the other way round
 pub agreed_meets : (v : Values) (ds : List Decision) → Agrees v ds → Meets v (literals_of ds)
@@ -167,3 +167,8 @@ found_denies v ds i d x q is k same h holds = opposite_denies v (literal_of q) (
 pub bound_either : (b : Bool) (new ds : List Decision) (d : Decision) (n : ℕ) → new ≡ cond b (ds ++ d ∷ []) ds → decisions_bound ds ≤ n → decision_bound d ≤ n → decisions_bound new ≤ n
 bound_either true new ds d n is h k = rw is (bound_pushed ds d n h k)
 bound_either false new ds d n is h k = rw is h
+
+-- a decision put last adds its open side
+pub open_sides_last : (ds : List Decision) (d : Decision) → open_sides (ds ++ d ∷ []) ≡ open_sides ds + open_side d
+open_sides_last [] d = omega arith
+open_sides_last (c ∷ ds) d = let i = open_sides_last ds d in omega (arith, i)

@@ -1,5 +1,5 @@
 -- The parts of what is to be walked: the path, and the open sides of its decisions.
-use Rattle.std.specs.Prelude.{ℕ, ◌≡◌, List, [], ◌∷◌, ◌⊎◌, max, ◌+ℤ◌, ◌-ℤ◌, pos, unsigned_abs, ◌≤◌}
+use Rattle.std.specs.Prelude.{ℕ, List, [], ◌∷◌, ◌⊎◌, max, ◌+◌}
 use Rattle.pv_linear.specs.declared.Literal.{Literal}
 use Rattle.pv_linear.specs.declared.Literal.TheVariants.{AtMost}
 use Rattle.pv_linear.specs.Values.{Values}
@@ -44,6 +44,15 @@ literal_in (Closed d) = literal_of d
 abbrev pub literals_of : List Decision → List Literal
 literals_of [] = []
 literals_of (d ∷ ds) = literal_in d ∷ literals_of ds
+
+-- how many sides are open
+abbrev pub open_side : Decision → ℕ
+open_side (Open d) = 1
+open_side (Closed d) = 0
+
+abbrev pub open_sides : List Decision → ℕ
+open_sides [] = 0
+open_sides (d ∷ ds) = open_side d + open_sides ds
 
 -- how far the bounds of a decision and of its open side are from zero
 abbrev pub decision_bound : Decision → ℕ

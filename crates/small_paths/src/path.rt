@@ -5,7 +5,7 @@ ghost use Rattle.pv_linear.specs.Values.{Values, values_of};
 ghost use Rattle.pv_linear.specs.Literal.{IsBounded, Holds, Meets, opposite, bound_of_all};
 ghost use Rattle.pv_diff.specs.Answer.{AllAtMost};
 ghost use Rattle.small_paths.specs.Asking.{Asks, Under};
-ghost use Rattle.small_paths.specs.Parts.{On, Off, literal_in, Agrees, Stands, literal_of, literals_of, decision_bound, decisions_bound};
+ghost use Rattle.small_paths.specs.Parts.{On, Off, literal_in, Agrees, Stands, literal_of, literals_of, decision_bound, decisions_bound, open_side, open_sides};
 
 use crate::asker::Asker;
 use crate::{Decision, Difference};
@@ -189,9 +189,11 @@ impl Path {
     }
 
     /// Ends the path and goes to the next one: the last decision with an open side is turned over, those before it stay.
+    /// Each call takes an open side away, so that the search goes on only while there are some.
     pub fn next_path(&mut self) -> Next
         ensures more { result ≡ Next.More → (v : Values) → Stands v self.old.decisions.items → Agrees v self.old.decisions.items ⊎ Stands v self.new.decisions.items }
         ensures done { result ≡ Next.Done → (v : Values) → Stands v self.old.decisions.items → Agrees v self.old.decisions.items }
+        ensures fewer { result ≡ Next.More → open_sides self.new.decisions.items < open_sides self.old.decisions.items }
     {
         turn_over_last(&mut self.decisions)
     }
@@ -203,6 +205,7 @@ fn turned_over(d: Decision) -> Option<Decision>
     ensures none { IfNone result ((v : Values) → Off v d → ⊥) }
     ensures some { IfSome result (λ other. (v : Values) → Off v d → On v other) }
     ensures bound { IfSome result (λ other. decision_bound other ≤ decision_bound d) }
+    ensures open { IfSome result (λ other. open_side other < open_side d) }
 {
     match d {
         Decision::Open(question) => Some(Decision::Closed(opposite_of(&question))),
@@ -215,6 +218,7 @@ fn turn_over_last(decisions: &mut Vec<Decision>) -> Next
     requires { decisions_bound decisions.old.items ≤ 2 ^ 100 }
     ensures more { result ≡ Next.More → (v : Values) → Stands v decisions.old.items → Agrees v decisions.old.items ⊎ Stands v decisions.new.items }
     ensures done { result ≡ Next.Done → (v : Values) → Stands v decisions.old.items → Agrees v decisions.old.items }
+    ensures fewer { result ≡ Next.More → open_sides decisions.new.items < open_sides decisions.old.items }
     ensures bound { decisions_bound decisions.new.items ≤ 2 ^ 100 }
 {
     while let Some(last) = decisions.pop() {

@@ -1,9 +1,9 @@
-use Rattle.std.proofs.Common.{arith, ◌⊎◌, inl, inr}
-use Rattle.small_paths.proofs.PartsLemmas.{Stands-cases, Waits-empty, Waits-dropped, Waits-turned, last_bounded, bound_popped, bound_pushed}
+use Rattle.std.proofs.Common.{arith, inl, inr}
+use Rattle.small_paths.proofs.PartsLemmas.{Stands-cases, Waits-empty, Waits-dropped, Waits-turned, last_bounded, bound_popped, bound_pushed, open_sides_last}
 use Rattle.small_paths.proofs.path.turn_over_last.Goals as goal
 
 pub loop-last-init : goal.loop-last-init
-loop-last-init c = record { waits = λ v h. Stands-cases v _ h; bound = c.requires }
+loop-last-init c = record { waits = λ v h. Stands-cases v _ h; bound = c.requires; fewer = omega arith }
 
 pub turned_over-requires : goal.turned_over-requires
 turned_over-requires c = last_bounded c.pop.new.self.items c.in-Some.last _ (rw c.in-Some.ensures.items at c.loop-last.invariant.bound)
@@ -21,6 +21,14 @@ returns-in-Ok-clause-bound c =
     let o = c.in-Some-turned_over.ensures.bound in
     rw c.in-Ok.ensures.items (bound_pushed c.pop.new.self.items c.in-Some-turned_over.other _ (bound_popped c.pop.new.self.items c.in-Some.last _ b) (omega (arith, l, o)))
 
+pub returns-in-Ok-clause-fewer : goal.returns-in-Ok-clause-fewer
+returns-in-Ok-clause-fewer c = λ _.
+    let f = rw c.in-Some.ensures.items at c.loop-last.invariant.fewer in
+    let l = open_sides_last c.pop.new.self.items c.in-Some.last in
+    let n = open_sides_last c.pop.new.self.items c.in-Some-turned_over.other in
+    let o = c.in-Some-turned_over.ensures.open in
+    rw c.in-Ok.ensures.items (omega (arith, f, l, n, o))
+
 pub loop-last-preserved : goal.loop-last-preserved
 loop-last-preserved c =
     let none = c.in_default-turned_over.ensures.none in
@@ -30,6 +38,7 @@ loop-last-preserved c =
         | inr w ↦ inr (Waits-dropped v c.pop.new.self.items c.in-Some.last (rw c.in-Some.ensures.items at w) (none v))
       ];
       bound = bound_popped c.pop.new.self.items c.in-Some.last _ (rw c.in-Some.ensures.items at c.loop-last.invariant.bound);
+      fewer = let f = rw c.in-Some.ensures.items at c.loop-last.invariant.fewer in let l = open_sides_last c.pop.new.self.items c.in-Some.last in omega (arith, f, l);
     }
 
 pub returns-clause-done : goal.returns-clause-done

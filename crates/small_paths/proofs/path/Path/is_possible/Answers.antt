@@ -1,8 +1,5 @@
 use Rattle.std.proofs.Common.{arith, length-append}
-use Rattle.pv_diff.specs.Answer.{AllAtMost}
-use Rattle.small_paths.specs.Parts.{literal_of, literals_of}
-use Rattle.small_paths.specs.declared.Decision.{Decision}
-use Rattle.pv_linear.specs.declared.Literal.{Literal}
+use Rattle.small_paths.specs.Parts.{literal_of}
 use Rattle.small_paths.proofs.PartsLemmas.{Agreed_meets, asked_at_most, bound_asked, length-literals_of}
 use Rattle.small_paths.proofs.path.Path.is_possible.Goals as goal
 
