@@ -9,6 +9,14 @@ use std::test::Fail;
 
 const A: LexemeKind = Named(Name(7));
 
+const ONE: LexemeKind = Number(1);
+
+const SET: LexemeKind = Fixed(ASSIGN);
+
+const BELOW: LexemeKind = Fixed(LESS);
+
+const END: LexemeKind = Fixed(SEMICOLON);
+
 const FRONT: [LexemeKind; 8] = [
     Fixed(CLASS),
     Named(Name(0)),
@@ -41,99 +49,63 @@ fn class_of(alloc: Global, body: &[LexemeKind]) -> Result<Vec<Lexeme>, AllocErro
     Ok(tokens)
 }
 
+/// Whether a class of one method with those statements is read.
+fn is_read(alloc: Global, body: &[LexemeKind]) -> Result<bool, AllocError> {
+    let tokens = class_of(alloc, body)?;
+    Ok(read_small(alloc, &tokens, None).is_ok())
+}
+
 #[test]
-fn statements(rt: HostRuntime) -> Result<(), Fail> {
-    let table: [(&[LexemeKind], bool); 12] = [
+fn locals_and_assignments(rt: HostRuntime) -> Result<(), Fail> {
+    let table: [(&[LexemeKind], bool); 6] = [
         (&[], true),
-        (&[Fixed(INT), A, Fixed(SEMICOLON)], true),
-        (
-            &[
-                Fixed(INT),
-                A,
-                Fixed(ASSIGN),
-                Number(1),
-                Fixed(PLUS),
-                Number(2),
-                Fixed(SEMICOLON),
-            ],
-            true,
-        ),
-        (
-            &[
-                A,
-                Fixed(ASSIGN),
-                Number(1),
-                Fixed(PLUS),
-                A,
-                Fixed(SEMICOLON),
-            ],
-            false,
-        ),
-        (
-            &[
-                A,
-                Fixed(ASSIGN),
-                A,
-                Fixed(LESS),
-                A,
-                Fixed(LESS),
-                A,
-                Fixed(SEMICOLON),
-            ],
-            false,
-        ),
-        (
-            &[
-                A,
-                Fixed(ASSIGN),
-                A,
-                Fixed(LESS),
-                A,
-                Fixed(EQUAL),
-                Fixed(TRUE),
-                Fixed(SEMICOLON),
-            ],
-            true,
-        ),
-        (
-            &[
-                Fixed(ASSERT),
-                Fixed(BANG),
-                A,
-                Fixed(AND_AND),
-                A,
-                Fixed(OR_OR),
-                Fixed(FALSE),
-                Fixed(SEMICOLON),
-            ],
-            true,
-        ),
-        (
-            &[Fixed(RETURN), Fixed(MINUS), Number(1), Fixed(SEMICOLON)],
-            true,
-        ),
-        (&[Fixed(RETURN), Fixed(MINUS), A, Fixed(SEMICOLON)], false),
+        (&[Fixed(INT), A, END], true),
+        (&[Fixed(INT), A, SET, ONE, Fixed(PLUS), ONE, END], true),
+        (&[A, SET, ONE, Fixed(PLUS), A, END], false),
+        (&[A, SET, A, BELOW, A, BELOW, A, END], false),
+        (&[A, SET, A, BELOW, A, Fixed(EQUAL), Fixed(TRUE), END], true),
+    ];
+    for (body, accepted) in table {
+        assert_eq!(rt; is_read(rt.alloc(), body)?, accepted);
+    }
+    Ok(())
+}
+
+const NOT_AND_OR: [LexemeKind; 8] = [
+    Fixed(ASSERT),
+    Fixed(BANG),
+    A,
+    Fixed(AND_AND),
+    A,
+    Fixed(OR_OR),
+    Fixed(FALSE),
+    END,
+];
+
+const ELSE_WITHOUT_BLOCK: [LexemeKind; 9] = [
+    Fixed(IF),
+    Fixed(OPEN_PAREN),
+    A,
+    Fixed(CLOSE_PAREN),
+    Fixed(OPEN_BRACE),
+    Fixed(CLOSE_BRACE),
+    Fixed(ELSE),
+    Fixed(RETURN),
+    END,
+];
+
+#[test]
+fn asserts_returns_and_branches(rt: HostRuntime) -> Result<(), Fail> {
+    let table: [(&[LexemeKind], bool); 6] = [
+        (&NOT_AND_OR, true),
+        (&[Fixed(RETURN), Fixed(MINUS), ONE, END], true),
+        (&[Fixed(RETURN), Fixed(MINUS), A, END], false),
         (&[Fixed(RETURN), A], false),
-        (
-            &[
-                Fixed(IF),
-                Fixed(OPEN_PAREN),
-                A,
-                Fixed(CLOSE_PAREN),
-                Fixed(OPEN_BRACE),
-                Fixed(CLOSE_BRACE),
-                Fixed(ELSE),
-                Fixed(RETURN),
-                Fixed(SEMICOLON),
-            ],
-            false,
-        ),
+        (&ELSE_WITHOUT_BLOCK, false),
         (&[Fixed(CLOSE_BRACE)], false),
     ];
     for (body, accepted) in table {
-        let tokens = class_of(rt.alloc(), body)?;
-        let read = read_small(rt.alloc(), &tokens, None);
-        assert_eq!(rt; read.is_ok(), accepted);
+        assert_eq!(rt; is_read(rt.alloc(), body)?, accepted);
     }
     Ok(())
 }
