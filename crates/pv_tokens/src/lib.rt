@@ -81,16 +81,19 @@ pub struct Tokens {
     pub items: Items<Lexeme>,
     /// The number of the word `length`, where the text has it.
     pub length: Option<Name>,
+    /// The length of the text, where a fault at its end stands.
+    pub end: u32,
 }
 
 impl Tokens {
-    /// No tokens.
-    pub fn new(alloc: Global) -> Tokens
-        ensures { result ≡ record { items = []; length = None } }
+    /// No tokens, in a text of that length.
+    pub fn new(alloc: Global, end: u32) -> Tokens
+        ensures { result ≡ record { items = []; length = None; end = end } }
     {
         Tokens {
             items: Items::new(alloc),
             length: None,
+            end,
         }
     }
 

@@ -152,8 +152,10 @@ pub fn tokens(alloc: Global, text: &[u8], names: &mut Names) -> Result<Tokens, T
     ensures spans { IfOk result (λ ts. InOrder 0 ts.items (length text.now)) }
     ensures numbers { IfOk result (λ ts. AreWithin ts.items) }
     ensures few { IfOk result (λ ts. length ts.items ≤ length text.now) }
+    ensures end { IfOk result (λ ts. ts.end ≡ length text.now) }
 {
     let items = read_all(alloc, text, names)?;
     let length = length_name(names, items.as_slice());
-    Ok(Tokens { items, length })
+    let end = text.len() as u32;
+    Ok(Tokens { items, length, end })
 }

@@ -4,3 +4,4 @@ pub mod Running
 pub mod Machine
 pub mod Grounds
 pub mod Rules
+pub mod Small

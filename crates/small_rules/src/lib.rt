@@ -1,4 +1,4 @@
-//! The rules that a small program keeps, as a test.
+//! What small programs are and which rules they keep, as tests.
 //!
 //! A test costs one pass over the tree: whether a name is in scope is looked up by its number.
 #![tactic(auto)]
@@ -8,6 +8,7 @@ mod classes;
 mod formulas;
 mod names;
 mod scopes;
+mod shapes;
 mod sorts;
 mod statements;
 #[cfg(test)]
@@ -16,12 +17,14 @@ mod tests;
 ghost use Rattle.std.specs.Prelude.{◌≡◌, ◌↔◌, IsTrue, IfOk};
 ghost use Rattle.std.specs.List.{list_all};
 ghost use Rattle.small_meaning.specs.Rules.{KeepsRules, is_class as is_class_of};
+ghost use Rattle.small_meaning.specs.Small.{IsSmall, is_plain as is_plain_of};
 
 use classes::is_class;
 use names::NameSet;
 use pv_ast::{Class, Program};
 use pv_base::NoMemory;
 use scopes::Visible;
+use shapes::is_plain;
 pub use sorts::is_number;
 use std::alloc::Global;
 
@@ -34,6 +37,22 @@ pub fn keeps_rules(alloc: Global, program: &Program) -> Result<bool, NoMemory>
     ensures { IfOk result (λ told. IsTrue told ↔ KeepsRules program.now) }
 {
     are_classes(alloc, program.classes.as_slice())
+}
+
+/// Whether a program is small: one class, without a lock invariant, of methods over whole numbers that keep the rules. The only
+/// error is want of memory.
+pub fn is_small(alloc: Global, program: &Program) -> Result<bool, NoMemory>
+    ensures { IfOk result (λ told. IsTrue told ↔ IsSmall program.now) }
+{
+    let classes = program.classes.as_slice();
+    Ok(classes.len() == 1 && are_plain(classes) && keeps_rules(alloc, program)?)
+}
+
+/// Whether no class has a lock invariant, or anything but methods over whole numbers.
+fn are_plain(classes: &[Class]) -> bool
+    ensures { result ≡ list_all is_plain_of classes.now }
+{
+    classes.iter().all(|class| is_plain(class))
 }
 
 /// Whether each class keeps the rules.

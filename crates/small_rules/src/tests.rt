@@ -1,4 +1,4 @@
-use crate::keeps_rules;
+use crate::{is_small, keeps_rules};
 use pv_ast::{
     Block, Class, Contract, Expr, ExprKind, Member, Method, Operator, Param, Program, PvType,
     Right, RightKind, Stmt, StmtKind, TypeWord, Word,
@@ -114,6 +114,23 @@ fn a_local_is_returned(rt: HostRuntime) -> Result<(), Fail> {
 fn a_local_of_a_branch_is_gone(rt: HostRuntime) -> Result<(), Fail> {
     let program = program(rt.alloc(), INNER)?;
     let told = keeps_rules(rt.alloc(), &program)?;
+    assert!(rt; !told);
+    Ok(())
+}
+
+#[test]
+fn small_programs(rt: HostRuntime) -> Result<(), Fail> {
+    let alloc = rt.alloc();
+    let mut program = program(alloc, LOCAL)?;
+    let told = is_small(alloc, &program)?;
+    assert!(rt; told);
+    program.classes.push(Class {
+        span: HERE,
+        name: word(9),
+        lock_invariant: None,
+        members: Items::new(alloc),
+    })?;
+    let told = is_small(alloc, &program)?;
     assert!(rt; !told);
     Ok(())
 }

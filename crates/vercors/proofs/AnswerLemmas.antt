@@ -9,8 +9,10 @@ use Rattle.vercors.specs.declared.ending.Answer.{Answer}
 use Rattle.vercors.specs.declared.ending.Status.{Status}
 use Rattle.vercors.specs.declared.ending.Status.TheVariants.{Passed, Refused, TextRefused, Splits, WordsWrong, NoFile, ReadFault, WriteFault, TooLarge, NoMemory, WentWrong, ScheduleRefused, Overflow, RangeTooLong}
 use Rattle.vercors.specs.Words.{IsVerify, NoVerify}
-use Rattle.vercors.specs.Output.{usage_line, not_built_line}
+use Rattle.vercors.specs.Output.{usage_line, refusal_line}
 use Rattle.vercors.specs.Texts.{SpellsNone}
+use Rattle.vercors.specs.Refusals.{IsRefused, HasOnly}
+use Rattle.vercors.specs.declared.refusing.Refusal.{Refusal}
 use Rattle.vercors.specs.Loading.{IsFaultAnswer}
 use Rattle.vercors.specs.Answers as answers
 use Rattle.vercors.specs.Answers.{limit, IsOfText, IsShown, IsTextAnswer, ReadsText, IsFileAnswer, told_of, IsAnswer, DeliversWhole, DeliversPart, Delivers, OrYields, ComesExactly}
@@ -20,18 +22,19 @@ pub told_here : (files : Option NamedBytes) (name : List ℕ) (P : Option (List 
 told_here None name P h = tt
 told_here (Some bytes_of) name P h = h
 
--- the answer to a text that spells no small program
-pub refused_answer : (text : List ℕ) (s : Status) (output : List ℕ) → SpellsNone text → s ≡ TextRefused → output ≡ not_built_line → IsTextAnswer text s output
-refused_answer text s output none e o =
+-- the answer to a text that is refused
+pub refused_answer : (text : List ℕ) (r : Refusal) (s : Status) (output : List ℕ) → IsRefused text r → HasOnly text r → SpellsNone text → s ≡ TextRefused → output ≡ refusal_line text r → IsTextAnswer text s output
+refused_answer text r s output refused only none e o =
     let Shown : Status → Type 0 = λ t. IsShown text t output in
     record {
       is = record {
         text_refused = (λ _. none, λ _. e);
+        has_refusal = λ _ _. e;
         refused = (λ k. absurd (cc), λ u. absurd (none u.names u.program u.spells));
         passed = (λ k. absurd (cc), λ u. absurd (none u.names u.program u.spells));
         safe = λ k. absurd (cc);
       };
-      shown = subst Shown (sym e) o;
+      shown = subst Shown (sym e) (record { refusal = r; is = refused; only = only; printed = o });
     }
 
 pub shown_of_text : (text : List ℕ) (s : Status) (output : List ℕ) → IsShown text s output → IsOfText s

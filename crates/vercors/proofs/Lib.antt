@@ -1,4 +1,5 @@
 pub mod JudgedLemmas
+pub mod FaultLemmas
 pub mod TextLemmas
 pub mod VerdictLemmas
 pub mod AnswerLemmas

@@ -19,6 +19,7 @@ use Rattle.vercors.specs.declared.judging.Judged.{Judged}
 use Rattle.vercors.specs.declared.ending.Status.{Status}
 use Rattle.vercors.specs.declared.ending.Status.TheVariants as status
 use Rattle.vercors.specs.Texts.{SpellsSmallProgram, SomeRunFails, SpellsOnly}
+use Rattle.vercors.specs.Refusals.{HasNoRefusal}
 use Rattle.vercors.specs.Units.{MethodUnit, units_of_member, units_of_class, units_of, AreJudged}
 use Rattle.vercors.specs.Output.{is_fail, some_fail, status_of, report_of}
 use Rattle.vercors.specs.Answers.{IsTextAnswer, IsShown, Reports}
@@ -155,8 +156,8 @@ not_both p f n = n f.method f.has f.arguments f.meets f.check f.span f.fails
 
 -- verdicts with their grounds, and the report of them, are the right answer to the text
 pub judged_answer : ((p : Program) → NoRunFails p → IsSafe p) → (text : List ℕ) (names : List (List ℕ)) (p : Program) (js : List Judged) (s : Status) (output : List ℕ)
-    → SpellsSmallProgram text names p → SpellsOnly text p → AreJudged (units_of p) js → s ≡ status_of js → output ≡ report_of text names js → IsTextAnswer text s output
-judged_answer law text names p js s output spells only a e o = by (some_fail js) refl
+    → SpellsSmallProgram text names p → SpellsOnly text p → HasNoRefusal text → AreJudged (units_of p) js → s ≡ status_of js → output ≡ report_of text names js → IsTextAnswer text s output
+judged_answer law text names p js s output spells only unrefused a e o = by (some_fail js) refl
   where
     reports : Reports text s output
     reports = record { names = names; program = p; judged = js; spells = spells; grounds = a; ends = e; printed = o }
@@ -170,6 +171,7 @@ judged_answer law text names p js s output spells only a e o = by (some_fail js)
         record {
           is = record {
             text_refused = (λ k. absurd (cc), λ none. absurd (none names p spells));
+            has_refusal = λ r refused. absurd (unrefused r refused);
             refused = (λ _. record { names = names; program = p; spells = spells; so = fails }, λ _. is);
             passed = (λ k. absurd (cc), λ u. absurd (not_both p fails (let R : Program → Type 0 = λ q. NoRunFails q in subst R (only u.names u.program u.spells) u.so)));
             safe = λ k. absurd (cc);
@@ -184,6 +186,7 @@ judged_answer law text names p js s output spells only a e o = by (some_fail js)
         record {
           is = record {
             text_refused = (λ k. absurd (cc), λ none. absurd (none names p spells));
+            has_refusal = λ r refused. absurd (unrefused r refused);
             refused = (λ k. absurd (cc), λ u. absurd (not_both p (let R : Program → Type 0 = λ q. SomeRunFails q in subst R (only u.names u.program u.spells) u.so) never));
             passed = (λ _. record { names = names; program = p; spells = spells; so = never }, λ _. is);
             safe = λ _. record { names = names; program = p; spells = spells; so = law p never };

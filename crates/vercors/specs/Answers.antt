@@ -7,10 +7,12 @@ use Rattle.pv_io.specs.Whole.{AppendsPrefix}
 use Rattle.vercors.specs.declared.ending.Status.{Status}
 use Rattle.vercors.specs.declared.ending.Status.TheVariants.{Passed, Refused, TextRefused, Splits, WordsWrong, NoFile, ReadFault, WriteFault, TooLarge, NoMemory, WentWrong, ScheduleRefused, Overflow, RangeTooLong}
 use Rattle.vercors.specs.declared.judging.Judged.{Judged}
+use Rattle.vercors.specs.declared.refusing.Refusal.{Refusal}
 use Rattle.vercors.specs.Words.{IsVerify, NoVerify}
 use Rattle.vercors.specs.Texts.{SpellsSmallProgram, SpellsNone, SpellsFailing, SpellsUnfailing, SpellsSafe}
+use Rattle.vercors.specs.Refusals.{IsRefused, HasOnly}
 use Rattle.vercors.specs.Units.{units_of, AreJudged}
-use Rattle.vercors.specs.Output.{usage_line, no_file_line, read_fault_line, too_large_line, not_built_line, report_of, status_of}
+use Rattle.vercors.specs.Output.{usage_line, no_file_line, read_fault_line, too_large_line, refusal_line, report_of, status_of}
 
 -- how many bytes a file may have
 abbrev pub limit : ℕ
@@ -43,11 +45,18 @@ pub record Reports (text : List ℕ) (status : Status) (output : List ℕ) : Typ
   pub ends : status ≡ status_of judged
   pub printed : output ≡ report_of text names judged
 
+-- the text has this refusal and no other, and the line of it
+pub record ShowsRefusal (text : List ℕ) (output : List ℕ) : Type 0 where
+  pub refusal : Refusal
+  pub is : IsRefused text refusal
+  pub only : HasOnly text refusal
+  pub printed : output ≡ refusal_line text refusal
+
 -- what is printed of a text
 abbrev pub IsShown : List ℕ → Status → List ℕ → Type 0
 IsShown text Passed output = Reports text Passed output
 IsShown text Refused output = Reports text Refused output
-IsShown text TextRefused output = output ≡ not_built_line
+IsShown text TextRefused output = ShowsRefusal text output
 IsShown text _ output = ⊥
 
 -- the statuses that a text has
@@ -57,10 +66,11 @@ IsOfText Refused = Unit {0}
 IsOfText TextRefused = Unit {0}
 IsOfText _ = ⊥
 
--- the text is refused exactly where it spells no small program, and the program exactly where some run fails; a program that
--- passed is safe
+-- the text is refused exactly where it spells no small program, and wherever it has some refusal; the program is refused
+-- exactly where some run fails; a program that passed is safe
 pub record IsStatusOf (text : List ℕ) (status : Status) : Type 0 where
   pub text_refused : (status ≡ TextRefused) ↔ SpellsNone text
+  pub has_refusal : (r : Refusal) → IsRefused text r → status ≡ TextRefused
   pub refused : (status ≡ Refused) ↔ SpellsFailing text
   pub passed : (status ≡ Passed) ↔ SpellsUnfailing text
   pub safe : status ≡ Passed → SpellsSafe text

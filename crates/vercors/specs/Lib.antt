@@ -1,5 +1,6 @@
 pub mod Words
 pub mod Texts
+pub mod Refusals
 pub mod Units
 pub mod Output
 pub mod Answers

@@ -12,6 +12,8 @@ use Rattle.small_verdicts.specs.declared.SmallVerdict.TheVariants.{Pass, Empty, 
 use Rattle.vercors.specs.declared.ending.Status.{Status}
 use Rattle.vercors.specs.declared.ending.Status.TheVariants as status
 use Rattle.vercors.specs.declared.judging.Judged.{Judged}
+use Rattle.vercors.specs.declared.refusing.Refusal.{Refusal}
+use Rattle.vercors.specs.declared.refusing.Refusal.TheVariants as refusal
 
 abbrev pub line_of : List ℕ → List ℕ
 line_of words = words ++ 10 ∷ []
@@ -28,9 +30,6 @@ read_fault_line = line_of (codes "ReadFault")
 abbrev pub too_large_line : List ℕ
 too_large_line = line_of (codes "TooLarge")
 
-abbrev pub not_built_line : List ℕ
-not_built_line = line_of (codes "TextRefused NotBuilt")
-
 -- the text of a name
 abbrev pub name_text : List (List ℕ) → Name → List ℕ
 name_text names name = unwrap_or (slice_get names name.0) []
@@ -46,6 +45,30 @@ place_text text at = decimal (line_at text at) ++ codes ":" ++ decimal (column_a
 -- a span, as `L:C-L:C`: its first place, and the one just after the last
 abbrev pub span_text : List ℕ → Span → List ℕ
 span_text text span = place_text text span.from ++ codes "-" ++ place_text text span.to
+
+-- the name of the rule for which a text is refused
+abbrev pub rule_text : Refusal → List ℕ
+rule_text (refusal.BadByte at) = codes "BadByte"
+rule_text (refusal.BadNumber at) = codes "BadNumber"
+rule_text (refusal.OpenComment at) = codes "OpenComment"
+rule_text refusal.Full = codes "Full"
+rule_text (refusal.Unexpected span) = codes "Unexpected"
+rule_text (refusal.TooDeep span) = codes "TooDeep"
+rule_text refusal.NotBuilt = codes "NotBuilt"
+
+-- what stands behind it: where the fault is
+abbrev pub text_behind_rule : List ℕ → Refusal → List ℕ
+text_behind_rule text (refusal.BadByte at) = codes " " ++ place_text text at
+text_behind_rule text (refusal.BadNumber at) = codes " " ++ place_text text at
+text_behind_rule text (refusal.OpenComment at) = codes " " ++ place_text text at
+text_behind_rule text refusal.Full = []
+text_behind_rule text (refusal.Unexpected span) = codes " " ++ span_text text span
+text_behind_rule text (refusal.TooDeep span) = codes " " ++ span_text text span
+text_behind_rule text refusal.NotBuilt = []
+
+-- the line of a refused text: `TextRefused RULE PLACE`, `TextRefused RULE SPAN` or `TextRefused RULE`
+abbrev pub refusal_line : List ℕ → Refusal → List ℕ
+refusal_line text r = line_of (codes "TextRefused " ++ rule_text r ++ text_behind_rule text r)
 
 abbrev pub check_text : SmallCheck → List ℕ
 check_text Assert = codes "Assert "

@@ -7,20 +7,29 @@ use Rattle.pv_ast.specs.declared.Program.{Program}
 use Rattle.pv_tokens.specs.declared.Lexeme.{Lexeme}
 use Rattle.pv_tokens.specs.Progress.{IsTokens}
 use Rattle.pv_tokens.specs.Lexemes.{IsNumberOf}
-use Rattle.small_reader.specs.Spelled.{SpellsSmall}
-use Rattle.small_meaning.specs.Rules.{KeepsRules}
+use Rattle.pv_reading.specs.Spelled.{SpellsWithin}
+use Rattle.pv_parser.specs.Grammar.{IsProgram}
+use Rattle.small_meaning.specs.Small.{IsSmall}
 use Rattle.small_meaning.specs.Running.{Arguments, Meets, Check, failed, run_of}
 use Rattle.small_meaning.specs.Grounds.{NoRunFails}
 use Rattle.small_meaning.specs.Machine.{HasMethod, IsSafe}
 
--- the tokens of the text spell the program, which keeps the rules; the names are those of the text, each at its number
-pub record SpellsSmallProgram (text : List ℕ) (names : List (List ℕ)) (program : Program) : Type 0 where
-  pub lexemes : List Lexeme
-  pub length_name : Option Name
+-- the tokens of the text and its names, each at its number, and the number of the word `length` where the text has it
+pub record HasTokens (text : List ℕ) (names : List (List ℕ)) (lexemes : List Lexeme) (length_name : Option Name) : Type 0 where
   pub read : IsTokens text [] lexemes names
   pub numbered : IsNumberOf names (codes "length") lexemes length_name
-  pub spelled : SpellsSmall lexemes length_name program
-  pub rules : KeepsRules program
+
+-- the tokens of the text spell the program, and at most 64 constructs are open at once
+pub record SpellsProgram (text : List ℕ) (names : List (List ℕ)) (program : Program) : Type 0 where
+  pub lexemes : List Lexeme
+  pub length_name : Option Name
+  pub tokens : HasTokens text names lexemes length_name
+  pub spelled : SpellsWithin (IsProgram length_name) 64 lexemes program
+
+-- the text spells the program, which is a small one
+pub record SpellsSmallProgram (text : List ℕ) (names : List (List ℕ)) (program : Program) : Type 0 where
+  pub spells : SpellsProgram text names program
+  pub small : IsSmall program
 
 -- the text spells no small program
 abbrev pub SpellsNone : List ℕ → Type 0

@@ -3,7 +3,8 @@ ghost use Rattle.std.specs.Prelude.{◌≡◌, ◌↔◌, ◌≤◌, ◌<◌, �
 ghost use Rattle.pv_io.specs.Count.{HasRisen, last_count};
 ghost use Rattle.pv_ast.specs.Measures.{literals_of_program};
 ghost use Rattle.vercors.specs.Words.{NoVerify};
-ghost use Rattle.vercors.specs.Texts.{SpellsSmallProgram, SpellsOnly};
+ghost use Rattle.vercors.specs.Texts.{SpellsSmallProgram, SpellsNone, SpellsOnly};
+ghost use Rattle.vercors.specs.Refusals.{IsRefused, HasOnly, HasNoRefusal};
 ghost use Rattle.vercors.specs.Loading.{IsFaultAnswer};
 ghost use Rattle.vercors.specs.Answers.{limit, IsTextAnswer, IsFileAnswer, IsAnswer, told_of};
 
@@ -11,6 +12,7 @@ use crate::command::{Words, file_to_verify};
 use crate::ending::{Answer, Status};
 use crate::judging::judge;
 use crate::reading::{TextFault, read_program};
+use crate::refusing::{Refusal, line_of_refusal};
 use crate::report::{report, status_of};
 use pv_ast::Program;
 use pv_base::NoMemory;
@@ -32,8 +34,6 @@ const READ_FAULT: &[u8] = b"ReadFault\n";
 
 const TOO_LARGE: &[u8] = b"TooLarge\n";
 
-const NOT_BUILT: &[u8] = b"TextRefused NotBuilt\n";
-
 /// The answer of one line.
 fn one_line(alloc: Global, status: Status, line: &[u8]) -> Result<Answer, NoMemory>
     ensures status { IfOk result (λ answer. answer.status ≡ status) }
@@ -53,6 +53,7 @@ fn answer_to_program(
     requires short { length text.now ≤ limit }
     requires spelled { SpellsSmallProgram text.now names.now program.now }
     requires one { SpellsOnly text.now program.now }
+    requires unrefused { HasNoRefusal text.now }
     requires few { literals_of_program program.now ≤ 2 ^ 20 }
     ensures { IfOk result (λ answer. IsTextAnswer text.now answer.status answer.output) }
 {
@@ -63,6 +64,21 @@ fn answer_to_program(
     Ok(Answer { status, output })
 }
 
+/// The answer to a text that is refused.
+fn answer_to_refusal(alloc: Global, text: &[u8], refusal: Refusal) -> Result<Answer, NoMemory>
+    requires short { length text.now ≤ limit }
+    requires refused { IsRefused text.now refusal }
+    requires only { HasOnly text.now refusal }
+    requires none { SpellsNone text.now }
+    ensures { IfOk result (λ answer. IsTextAnswer text.now answer.status answer.output) }
+{
+    let output = line_of_refusal(alloc, text, refusal)?;
+    Ok(Answer {
+        status: Status::TextRefused,
+        output,
+    })
+}
+
 /// The answer to a text.
 fn answer_to_text(alloc: Global, text: &[u8]) -> Result<Answer, NoMemory>
     requires { length text.now ≤ limit }
@@ -71,7 +87,7 @@ fn answer_to_text(alloc: Global, text: &[u8]) -> Result<Answer, NoMemory>
     let mut names = Names::new(alloc);
     match read_program(alloc, text, &mut names) {
         Ok(program) => answer_to_program(alloc, text, &names, &program),
-        Err(TextFault::NotBuilt) => one_line(alloc, Status::TextRefused, NOT_BUILT),
+        Err(TextFault::Refused(refusal)) => answer_to_refusal(alloc, text, refusal),
         Err(TextFault::NoMemory) => Err(NoMemory),
     }
 }

@@ -38,7 +38,7 @@ fn put_number(output: &mut Vec<u8>, number: u32) -> Result<(), AllocError>
 }
 
 /// Puts a place last, and makes its position the near one.
-fn put_place(
+pub fn put_place(
     output: &mut Vec<u8>,
     text: &[u8],
     at: u32,

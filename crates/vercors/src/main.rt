@@ -1,4 +1,4 @@
-//! `vercors verify FILE` gives a verdict on each method of a small program.
+//! `vercors verify FILE` reads a program of the whole language, and gives a verdict on each method of a small one.
 //!
 //! The words and the text are read in one pass each; what the verdicts cost is said at their crate.
 #![tactic(auto)]
@@ -11,6 +11,7 @@ mod judging;
 mod lines;
 mod places;
 mod reading;
+mod refusing;
 mod report;
 #[cfg(test)]
 mod tests;

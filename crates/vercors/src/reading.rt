@@ -1,25 +1,30 @@
 //! From a text to the small program that it spells.
-ghost use Rattle.std.specs.Prelude.{◌≡◌, ◌≤◌, ◌^◌, [], length, IfOk, IsErrOf};
+ghost use Rattle.std.specs.Prelude.{◌≡◌, ◌≢◌, ◌≤◌, ◌^◌, [], length, IfOk, IfErr};
 ghost use Rattle.pv_ast.specs.Measures.{literals_of_program};
 ghost use Rattle.vercors.specs.Texts.{SpellsSmallProgram, SpellsNone, SpellsOnly};
 
+use crate::refusing::Refusal;
 use pv_ast::Program;
 use pv_base::NoMemory;
 use pv_names::Names;
+use pv_parser::{few_literals, program};
+use pv_reading::ParseFault;
 use pv_tokens::TokenFault;
 use pv_tokens::reading::tokens;
-use small_reader::{ReadFault, read_small};
-use small_rules::keeps_rules;
+use small_rules::is_small;
 use std::alloc::Global;
 
 /// Why a text was not read.
 #[derive(Clone, Copy, Debug, PartialEq, Eq, Drop)]
 pub enum TextFault {
-    /// It spells no small program.
-    NotBuilt,
+    /// It is refused.
+    Refused(Refusal),
     /// Memory ran out.
     NoMemory,
 }
+
+ghost use Rattle.vercors.specs.Refusals.{HasNoRefusal};
+ghost use Rattle.vercors.specs.Faults.{Refuses};
 
 impl From<NoMemory> for TextFault {
     ghost use Rattle.std.specs.Prelude.{◌≡◌};
@@ -39,43 +44,46 @@ impl From<TokenFault> for TextFault {
 
     fn from(fault: TokenFault) -> TextFault {
         match fault {
+            TokenFault::BadByte(at) => TextFault::Refused(Refusal::BadByte(at)),
+            TokenFault::BadNumber(at) => TextFault::Refused(Refusal::BadNumber(at)),
+            TokenFault::OpenComment(at) => TextFault::Refused(Refusal::OpenComment(at)),
+            TokenFault::Full => TextFault::Refused(Refusal::Full),
             TokenFault::NoMemory => TextFault::NoMemory,
-            TokenFault::BadByte(_)
-            | TokenFault::BadNumber(_)
-            | TokenFault::OpenComment(_)
-            | TokenFault::Full => TextFault::NotBuilt,
         }
     }
 }
 
-impl From<ReadFault> for TextFault {
-    ghost use Rattle.vercors.specs.Faults.{OfReading};
+impl From<ParseFault> for TextFault {
+    ghost use Rattle.vercors.specs.Faults.{OfParsing};
 
-    ghost from_gives = { OfReading };
+    ghost from_gives = { OfParsing };
 
-    fn from(fault: ReadFault) -> TextFault {
+    fn from(fault: ParseFault) -> TextFault {
         match fault {
-            ReadFault::Refused => TextFault::NotBuilt,
-            ReadFault::NoMemory => TextFault::NoMemory,
+            ParseFault::Unexpected(place) => TextFault::Refused(Refusal::Unexpected(place)),
+            ParseFault::TooDeep(place) => TextFault::Refused(Refusal::TooDeep(place)),
+            ParseFault::NoMemory => TextFault::NoMemory,
         }
     }
 }
 
-/// The small program that a text spells, and the names in it. `NotBuilt` comes exactly where it spells none, unless memory
-/// runs out first.
+/// The small program that a text spells, and the names in it; or why the text is refused, unless memory runs out first.
 pub fn read_program(alloc: Global, text: &[u8], names: &mut Names) -> Result<Program, TextFault>
     requires short { length text.now ≤ 2 ^ 20 }
     requires no_names { names.old ≡ [] }
     ensures spelled { IfOk result (λ program. SpellsSmallProgram text.now names.new program) }
     ensures one { IfOk result (λ program. SpellsOnly text.now program) }
-    ensures not_built { IsErrOf result TextFault.NotBuilt → SpellsNone text.now }
+    ensures unrefused { IfOk result (λ _. HasNoRefusal text.now) }
+    ensures refused { IfErr result (λ fault. Refuses text.now fault) }
+    ensures none { IfErr result (λ fault. fault ≢ TextFault.NoMemory → SpellsNone text.now) }
     ensures few { IfOk result (λ program. literals_of_program program ≤ 2 ^ 20) }
 {
+    few_literals();
     let found = tokens(alloc, text, names)?;
-    let program = read_small(alloc, found.items.as_slice(), found.length)?;
-    if keeps_rules(alloc, &program)? {
+    let program = program(alloc, &found)?;
+    if is_small(alloc, &program)? {
         Ok(program)
     } else {
-        Err(TextFault::NotBuilt)
+        Err(TextFault::Refused(Refusal::NotBuilt))
     }
 }

@@ -53,6 +53,14 @@ const LOOPING: &[u8] = b"class Abs {
 }
 ";
 
+const GROUPED: &[u8] = b"class Abs {
+  ensures \\result == (x + (1));
+  int next(int x) {
+    return x + 1;
+  }
+}
+";
+
 /// The calls of the shelf and of the sink that fail, and those of the sink that take nothing.
 #[derive(Clone, Copy)]
 struct Faults<'a> {
@@ -109,7 +117,7 @@ fn verify(alloc: Global, text: &[u8], faults: Faults) -> Result<(Status, Bytes),
 
 #[test]
 fn texts(rt: HostRuntime) -> Result<(), Fail> {
-    let rows: [(&[u8], Status, &[u8]); 6] = [
+    let rows: [(&[u8], Status, &[u8]); 7] = [
         (NEXT, Status::Passed, b"Pass Abs.next\nPass\n"),
         (
             FAILING,
@@ -122,6 +130,7 @@ fn texts(rt: HostRuntime) -> Result<(), Fail> {
             b"Fail Assert C.a 2:21-2:26\nFail Assert C.b 3:21-3:26\nRefused\n",
         ),
         (UNMET, Status::Passed, b"Empty Abs.next\nPass\n"),
+        (GROUPED, Status::Passed, b"Pass Abs.next\nPass\n"),
         (LOOPING, Status::TextRefused, b"TextRefused NotBuilt\n"),
         (b"", Status::TextRefused, b"TextRefused NotBuilt\n"),
     ];
@@ -130,6 +139,62 @@ fn texts(rt: HostRuntime) -> Result<(), Fail> {
         assert_eq!(rt; answer, status);
         assert_eq!(rt; written.as_slice(), output);
     }
+    Ok(())
+}
+
+#[test]
+fn refused_texts(rt: HostRuntime) -> Result<(), Fail> {
+    let rows: [(&[u8], &[u8]); 9] = [
+        (b"class C { int x; } %", b"TextRefused BadByte 1:20\n"),
+        (
+            b"class C {\n  int x = 9223372036854775808;\n}",
+            b"TextRefused BadNumber 2:11\n",
+        ),
+        (b"class C { } /* x", b"TextRefused OpenComment 1:13\n"),
+        (b"class C { ; }", b"TextRefused Unexpected 1:11-1:12\n"),
+        (b"class C {", b"TextRefused Unexpected 1:10-1:10\n"),
+        (b"class C { } class C %", b"TextRefused BadByte 1:21\n"),
+        (b"class C { int x; }", b"TextRefused NotBuilt\n"),
+        (b"class C { } class D { }", b"TextRefused NotBuilt\n"),
+        (
+            b"class C { void f() { boolean b; } }",
+            b"TextRefused NotBuilt\n",
+        ),
+    ];
+    for (text, output) in rows {
+        let (answer, written) = verify(rt.alloc(), text, NONE)?;
+        assert_eq!(rt; answer, Status::TextRefused);
+        assert_eq!(rt; written.as_slice(), output);
+    }
+    Ok(())
+}
+
+/// A text whose parentheses stand that deep, in the braces of a class and of a method.
+fn nested(alloc: Global, count: u64) -> Result<Vec<u8>, AllocError> {
+    let mut text = Vec::new(alloc);
+    text.extend_from_slice(b"class C { void f() { assert ")?;
+    for _ in 0..count {
+        text.push(b'(')?;
+    }
+    text.extend_from_slice(b"0 == 0")?;
+    for _ in 0..count {
+        text.push(b')')?;
+    }
+    text.extend_from_slice(b"; } }")?;
+    Ok(text)
+}
+
+#[test]
+fn deep_texts(rt: HostRuntime) -> Result<(), Fail> {
+    let (answer, written) = verify(rt.alloc(), nested(rt.alloc(), 61)?.as_slice(), NONE)?;
+    assert_eq!(rt; answer, Status::Passed);
+    assert_eq!(rt; written.as_slice(), b"Pass C.f\nPass\n".as_slice());
+    let (answer, written) = verify(rt.alloc(), nested(rt.alloc(), 63)?.as_slice(), NONE)?;
+    assert_eq!(rt; answer, Status::TextRefused);
+    assert_eq!(rt;
+        written.as_slice(),
+        b"TextRefused TooDeep 1:91-1:92\n".as_slice()
+    );
     Ok(())
 }
 

@@ -1,0 +1,5 @@
+pub mod Grammar
+pub mod Operators
+pub mod Reading
+pub mod Trees
+pub mod Spelled

@@ -1,0 +1,44 @@
+//! The call that reads a whole program.
+ghost use Rattle.std.specs.Prelude.{◌≡◌, List, Option};
+ghost use Rattle.pv_ast.specs.declared.Program.{Program};
+ghost use Rattle.pv_base.specs.declared.Name.{Name};
+ghost use Rattle.pv_tokens.specs.declared.Lexeme.{Lexeme};
+ghost use Rattle.pv_exprs.specs.Spelled.{limit};
+ghost use Rattle.pv_reading.specs.Answers.{ReadsAll, Answers};
+ghost use Rattle.pv_reading.specs.Spelled.{Spells, SpellsWithin};
+ghost use Rattle.pv_parser.specs.Grammar.{IsProgram};
+
+use crate::classes::read_program;
+use pv_ast::Program;
+use pv_reading::{ParseFault, place, placed};
+use pv_tokens::Tokens;
+use std::alloc::Global;
+
+/// How many constructs may be open at once.
+const LIMIT: u32 = 64;
+
+/// The program that the tokens of a text spell, all of them, with at most 64 constructs open at once. `Unexpected` names the
+/// first token up to which they are the front of no program, at whatever depth, and `TooDeep` the first that opens the 65th
+/// construct.
+pub fn program(alloc: Global, tokens: &Tokens) -> Result<Program, ParseFault>
+    ensures reads { ReadsAll (IsProgram tokens.now.length) limit tokens.now.end tokens.now.items result }
+    // What spells a program is read as that one, unless memory runs out.
+    ensures accepts { (p : Program) → SpellsWithin (IsProgram tokens.now.length) limit tokens.now.items p → Answers result p }
+{
+    let items = tokens.items.as_slice();
+    match read_program(alloc, items, tokens.length, LIMIT) {
+        Ok((program, rest)) => {
+            if rest.is_empty() {
+                Ok(program)
+            } else {
+                Err(ParseFault::Unexpected(place(items, tokens.end, rest.len())))
+            }
+        }
+        Err(fault) => Err(placed(items, tokens.end, fault)),
+    }
+}
+
+/// Tokens spell at most one program, at whatever depth.
+pub fn one_tree()
+    ensures { (lexemes : List Lexeme) (length : Option Name) (a b : Program) → Spells (IsProgram length) lexemes a → Spells (IsProgram length) lexemes b → a ≡ b }
+{}

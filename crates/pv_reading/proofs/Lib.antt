@@ -1,0 +1,7 @@
+pub mod Calls
+pub mod Exact
+pub mod Loops
+pub mod Nexts
+pub mod Steps
+pub mod Turns
+pub mod Whole

@@ -1,0 +1,5 @@
+pub mod Answers
+pub mod Given
+pub mod Marks
+pub mod Reading
+pub mod Spelled

@@ -1,0 +1,10 @@
+//! What readers of tokens are made of: faults with the place where they stand, and one token of sight.
+#![tactic(auto)]
+
+mod fault;
+mod places;
+mod sight;
+
+pub use fault::{ParseFault, ReadFault};
+pub use places::{place, placed, tokens_from};
+pub use sight::{across, after, expected, expected_name, expected_number, named, numbered};

@@ -1,5 +1,0 @@
-pub mod Given
-pub mod Grammar
-pub mod Literals
-pub mod Reading
-pub mod Spelled
