@@ -1,3 +1,1 @@
-pub mod Kinds
-pub mod Sets
-pub mod Scopes
+pub mod Forms

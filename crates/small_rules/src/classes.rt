@@ -1,70 +1,62 @@
-ghost use Rattle.std.specs.Prelude.{◌≡◌, [], ◌∷◌, IfOk, MatchOption};
+ghost use Rattle.std.specs.Prelude.{◌≡◌};
 ghost use Rattle.std.specs.List.{list_all};
-ghost use Rattle.small_meaning.specs.Rules as rules;
+ghost use Rattle.small_meaning.specs.Small as small;
 
-use crate::bodies::is_method;
-use crate::names::NameSet;
-use crate::scopes::Visible;
-use pv_ast::{Class, Member};
-use pv_base::{Name, NoMemory};
+use crate::expressions::is_small_expr;
+use crate::statements::{is_int, is_small_block};
+use pv_ast::{Class, Clause, Member, Method, Param, TypeWord};
 
-/// Whether a class keeps the rules: its members have distinct names and keep the rules. What `names` and `visible` had before
-/// is taken out.
-pub fn is_class(class: &Class, names: &mut NameSet, visible: &mut Visible) -> Result<bool, NoMemory>
-    ensures { IfOk result (λ kept. kept ≡ rules.is_class class.now) }
+/// Whether a class has no lock invariant, and nothing but small methods.
+pub fn is_small_class(class: &Class) -> bool
+    ensures { result ≡ small.is_small_class class.now }
 {
-    let members = class.members.as_slice();
-    names.clear();
-    Ok(are_distinct(members, names)? && are_members(members, visible)?)
+    class.lock_invariant.is_none() && are_small_members(class.members.as_slice())
 }
 
-/// Whether no two members have one name.
-fn are_distinct(members: &[Member], names: &mut NameSet) -> Result<bool, NoMemory>
-    requires { names.old ≡ [] }
-    ensures { IfOk result (λ kept. kept ≡ rules.are_distinct (rules.member_names members.now)) }
+fn are_small_members(members: &[Member]) -> bool
+    ensures { result ≡ list_all small.is_small_member members.now }
 {
-    for at in (0..members.len()).rev() {
-        if let Some(name) = name_of(&members[at])
-            && !names.insert(name)?
-        {
-            return Ok(false);
-        }
-    }
-    Ok(true)
+    members.iter().all(|member| is_small_member(member))
 }
 
-/// The name of a member. What a thread of the class runs has none.
-fn name_of(member: &Member) -> Option<Name>
-    ensures { MatchOption result (rules.names_of_member member.now ≡ []) (λ name. rules.names_of_member member.now ≡ name.0 ∷ []) }
+fn is_small_member(member: &Member) -> bool
+    ensures { result ≡ small.is_small_member member.now }
 {
     match member {
-        Member::Field(field) => Some(field.name.name),
-        Member::Predicate(predicate) => Some(predicate.name.name),
-        Member::Method(method) => Some(method.name.name),
-        Member::Run(_) => None,
+        Member::Method(method) => is_small_method(method),
+        Member::Field(_) => false,
+        Member::Predicate(_) => false,
+        Member::Run(_) => false,
     }
 }
 
-/// Whether each member is a method that keeps the rules.
-fn are_members(members: &[Member], visible: &mut Visible) -> Result<bool, NoMemory>
-    ensures { IfOk result (λ kept. kept ≡ list_all rules.is_member members.now) }
+/// Whether the parameters and the result of a method are whole numbers, and its clauses and its body are small.
+fn is_small_method(method: &Method) -> bool
+    ensures { result ≡ small.is_small_method method.now }
 {
-    for member in members {
-        if !is_member(member, visible)? {
-            return Ok(false);
-        }
-    }
-    Ok(true)
+    is_small_result(&method.result)
+        && are_small_params(method.params.as_slice())
+        && are_small_clauses(method.contract.clauses.as_slice())
+        && is_small_block(method.body.as_slice())
 }
 
-/// Whether a member is a method that keeps the rules.
-fn is_member(member: &Member, visible: &mut Visible) -> Result<bool, NoMemory>
-    ensures { IfOk result (λ kept. kept ≡ rules.is_member member.now) }
+fn is_small_result(word: &Option<TypeWord>) -> bool
+    ensures { result ≡ small.is_small_result word.now }
 {
-    match member {
-        Member::Method(method) => is_method(method, visible),
-        Member::Field(_) => Ok(false),
-        Member::Predicate(_) => Ok(false),
-        Member::Run(_) => Ok(false),
+    match word {
+        None => true,
+        Some(word) => is_int(word.kind),
     }
+}
+
+fn are_small_params(params: &[Param]) -> bool
+    ensures { result ≡ list_all small.is_small_param params.now }
+{
+    params.iter().all(|param| is_int(param.kind.kind))
+}
+
+fn are_small_clauses(clauses: &[Clause]) -> bool
+    ensures { result ≡ list_all small.is_small_clause clauses.now }
+{
+    clauses.iter().all(|clause| is_small_expr(&clause.formula))
 }

@@ -1,4 +1,4 @@
-use crate::{is_small, keeps_rules};
+use crate::is_small;
 use pv_ast::{
     Block, Class, Contract, Expr, ExprKind, Member, Method, Operator, Param, Program, PvType,
     Right, RightKind, Stmt, StmtKind, TypeWord, Word,
@@ -56,8 +56,8 @@ fn binary(alloc: Global, operator: Operator, a: Expr, b: Expr) -> Result<Expr, N
     Ok(expression(ExprKind::Binary(operator, a, b)))
 }
 
-// `int y = x + 1; if (y == x) { int z = y; } else {} return ..;`
-fn body(alloc: Global, returned: u32) -> Result<Block, NoMemory> {
+// `int y = x + 1; if (y == x) { int z = y; } else {} return e;`
+fn body(alloc: Global, returned: Expr) -> Result<Block, NoMemory> {
     let one = expression(ExprKind::Number(1));
     let sum = binary(alloc, Operator::Add, variable(PARAMETER), one)?;
     let condition = binary(alloc, Operator::Eq, variable(LOCAL), variable(PARAMETER))?;
@@ -66,12 +66,12 @@ fn body(alloc: Global, returned: u32) -> Result<Block, NoMemory> {
     let mut block = Items::new(alloc);
     block.push(declaration(LOCAL, sum))?;
     block.push(statement(StmtKind::If(condition, branch, Items::new(alloc))))?;
-    block.push(statement(StmtKind::Return(Some(variable(returned)))))?;
+    block.push(statement(StmtKind::Return(Some(returned))))?;
     Ok(block)
 }
 
-// A class with one method, which returns the variable of that number.
-fn program(alloc: Global, returned: u32) -> Result<Program, NoMemory> {
+// A class with one method, which returns the expression.
+fn class(alloc: Global, returned: Expr) -> Result<Class, NoMemory> {
     let mut params = Items::new(alloc);
     params.push(Param {
         name: word(PARAMETER),
@@ -89,48 +89,39 @@ fn program(alloc: Global, returned: u32) -> Result<Program, NoMemory> {
     };
     let mut members = Items::new(alloc);
     members.push(Member::Method(method))?;
-    let mut classes = Items::new(alloc);
-    classes.push(Class {
+    Ok(Class {
         span: HERE,
         name: word(0),
         lock_invariant: None,
         members,
-    })?;
-    Ok(Program {
-        classes,
-        length: None,
     })
 }
 
 #[test]
-fn a_local_is_returned(rt: HostRuntime) -> Result<(), Fail> {
-    let program = program(rt.alloc(), LOCAL)?;
-    let told = keeps_rules(rt.alloc(), &program)?;
-    assert!(rt; told);
-    Ok(())
-}
-
-#[test]
-fn a_local_of_a_branch_is_gone(rt: HostRuntime) -> Result<(), Fail> {
-    let program = program(rt.alloc(), INNER)?;
-    let told = keeps_rules(rt.alloc(), &program)?;
-    assert!(rt; !told);
-    Ok(())
-}
-
-#[test]
-fn small_programs(rt: HostRuntime) -> Result<(), Fail> {
+fn programs_of_methods_are_small(rt: HostRuntime) -> Result<(), Fail> {
     let alloc = rt.alloc();
-    let mut program = program(alloc, LOCAL)?;
-    let told = is_small(alloc, &program)?;
-    assert!(rt; told);
-    program.classes.push(Class {
-        span: HERE,
-        name: word(9),
-        lock_invariant: None,
-        members: Items::new(alloc),
-    })?;
-    let told = is_small(alloc, &program)?;
-    assert!(rt; !told);
+    let mut program = Program {
+        classes: Items::new(alloc),
+        length: None,
+    };
+    assert!(rt; is_small(&program));
+    program.classes.push(class(alloc, variable(LOCAL))?)?;
+    assert!(rt; is_small(&program));
+    program.classes.push(class(alloc, variable(PARAMETER))?)?;
+    assert!(rt; is_small(&program));
+    Ok(())
+}
+
+#[test]
+fn sums_of_variables_are_not_small(rt: HostRuntime) -> Result<(), Fail> {
+    let alloc = rt.alloc();
+    let mut program = Program {
+        classes: Items::new(alloc),
+        length: None,
+    };
+    program.classes.push(class(alloc, variable(LOCAL))?)?;
+    let sum = binary(alloc, Operator::Add, variable(LOCAL), variable(PARAMETER))?;
+    program.classes.push(class(alloc, sum)?)?;
+    assert!(rt; !is_small(&program));
     Ok(())
 }

@@ -1,5 +1,6 @@
 pub mod JudgedLemmas
 pub mod FaultLemmas
+pub mod ProgramLemmas
 pub mod TextLemmas
 pub mod VerdictLemmas
 pub mod AnswerLemmas

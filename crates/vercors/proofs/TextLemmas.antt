@@ -13,18 +13,18 @@ use Rattle.pv_reading.specs.declared.fault.ParseFault.{ParseFault}
 use Rattle.pv_reading.specs.declared.fault.ParseFault.TheVariants as parse
 use Rattle.pv_reading.specs.Answers.{ReadsAll, Answers}
 use Rattle.pv_reading.specs.Spelled.{SpellsWithin, IsUnexpected, IsTooDeep}
-use Rattle.small_meaning.specs.Small.{IsSmall}
 use Rattle.vercors.specs.declared.refusing.Refusal.{Refusal}
 use Rattle.vercors.specs.declared.refusing.Refusal.TheVariants as refusal
 use Rattle.pv_base.specs.declared.Span.{Span}
 use Rattle.pv_parser.specs.Grammar.{IsProgram}
 use Rattle.pv_parser.proofs.OneTree.{one_too_deep, unexpected_not_deep}
-use Rattle.vercors.specs.declared.reading.TextFault.{TextFault}
-use Rattle.vercors.specs.declared.reading.TextFault.TheVariants.{NoMemory}
-use Rattle.vercors.specs.Faults.{OfTokens, OfParsing, Refuses}
-use Rattle.vercors.specs.Refusals.{IsRefused, bad_byte, bad_number, open_comment, full, unexpected, too_deep, not_built, HasOnly, HasNoRefusal}
-use Rattle.vercors.specs.Texts.{HasTokens, SpellsProgram, SpellsNone}
+use Rattle.vercors.specs.declared.fault.TextFault.{TextFault}
+use Rattle.vercors.specs.declared.fault.TextFault.TheVariants.{Refused, NoMemory}
+use Rattle.vercors.specs.Faults.{OfTokens, OfParsing, RefusesProgram, Refuses}
+use Rattle.vercors.specs.Refusals.{IsProgramRefused, IsRefused, bad_byte, bad_number, open_comment, full, unexpected, too_deep, of_program, HasOnly, HasNoRefusal}
+use Rattle.vercors.specs.Texts.{HasTokens, SpellsProgram, IsAccepted, SpellsNone}
 use Rattle.vercors.proofs.FaultLemmas.{one_unexpected, spelled_not_unexpected, spelled_not_too_deep}
+use Rattle.vercors.proofs.ProgramLemmas.{one_refusal, accepted_unrefused}
 
 -- a word has one number
 one_number : (names : List (List ℕ)) (word : List ℕ) (xs : List Lexeme) (a b : Option Name) → IsNumberOf names word xs a → IsNumberOf names word xs b → a ≡ b
@@ -152,7 +152,7 @@ only_fault text before e none filled untold only other refused = by other refuse
     by _ (full f) = same token.Full f
     by _ (unexpected has h) = absurd (no_tokens has)
     by _ (too_deep has h) = absurd (no_tokens has)
-    by _ (not_built spells h) = absurd (no_tokens spells.tokens)
+    by _ (of_program spells h) = absurd (no_tokens spells.tokens)
 
 -- a text with a fault is refused for it
 pub refused_by_tokens : (text : List ℕ) (before : List (List ℕ)) (e : TokenFault) (r : Result Program TextFault) → before ≡ [] → (e ≢ token.NoMemory → IsFault text before e)
@@ -182,7 +182,7 @@ only_unexpected {text = text} {found = found} f place none h _ (unexpected {name
     ap (λ (s : Span). refusal.Unexpected s) (one_unexpected (IsProgram found.length) 64 (length text) found.items place other h (unexpected_here f names lexemes length_name other has k))
 only_unexpected {text = text} {found = found} f place none h _ (too_deep {names} {lexemes} {length_name} {place = other} has k) =
     absurd (unexpected_not_deep found.length found.items (length text) place other h (too_deep_here f names lexemes length_name other has k))
-only_unexpected f place none h _ (not_built {names} {program} spells k) = absurd (none names program spells)
+only_unexpected f place none h _ (of_program {names} {program} spells k) = absurd (none names program spells)
 
 only_too_deep : {text : List ℕ} {names : List (List ℕ)} {found : Tokens} → Found text names found → (place : Span) → ((others : List (List ℕ)) (p : Program) → SpellsProgram text others p → ⊥)
     → IsTooDeep (IsProgram found.length) 64 found.items place → HasOnly text (refusal.TooDeep place)
@@ -194,7 +194,7 @@ only_too_deep {text = text} {found = found} f place none h _ (unexpected {names}
     absurd (unexpected_not_deep found.length found.items (length text) other place (unexpected_here f names lexemes length_name other has k) h)
 only_too_deep {found = found} f place none h _ (too_deep {names} {lexemes} {length_name} {place = other} has k) =
     ap (λ (s : Span). refusal.TooDeep s) (one_too_deep found.length found.items place other h (too_deep_here f names lexemes length_name other has k))
-only_too_deep f place none h _ (not_built {names} {program} spells k) = absurd (none names program spells)
+only_too_deep f place none h _ (of_program {names} {program} spells k) = absurd (none names program spells)
 
 -- tokens that spell no program are refused for it
 pub refused_by_grammar : (text : List ℕ) (names : List (List ℕ)) (found : Tokens) (e : ParseFault) (r : Result Program TextFault) → Found text names found
@@ -220,32 +220,54 @@ none_by_grammar text parse.NoMemory (Err f) a k = λ filled. absurd (filled k)
 
 -- Programs.
 
-pub program_here : {text : List ℕ} {names : List (List ℕ)} {found : Tokens} → Found text names found → (p : Program) → SpellsWithin (IsProgram found.length) 64 found.items p → SpellsProgram text names p
+program_here : {text : List ℕ} {names : List (List ℕ)} {found : Tokens} → Found text names found → (p : Program) → SpellsWithin (IsProgram found.length) 64 found.items p → SpellsProgram text names p
 program_here {found = found} f p s = record { lexemes = found.items; length_name = found.length; tokens = f.has; spelled = s }
 
--- a text that spells a small program has no refusal
-pub no_refusal : {text : List ℕ} {names : List (List ℕ)} {found : Tokens} → Found text names found → (p : Program) → SpellsWithin (IsProgram found.length) 64 found.items p
-    → ((others : List (List ℕ)) (q : Program) → SpellsProgram text others q → p ≡ q) → IsSmall p → HasNoRefusal text
-no_refusal f p s one small _ (bad_byte x) = f.faultless _ x
-no_refusal f p s one small _ (bad_number x) = f.faultless _ x
-no_refusal f p s one small _ (open_comment x) = f.faultless _ x
-no_refusal f p s one small _ (full x) = f.faultless _ x
-no_refusal {text = text} {found = found} f p s one small _ (unexpected {names} {lexemes} {length_name} {place} has k) =
-    spelled_not_unexpected (IsProgram found.length) 64 (length text) found.items p place s (unexpected_here f names lexemes length_name place has k)
-no_refusal {found = found} f p s one small _ (too_deep {names} {lexemes} {length_name} {place} has k) =
-    spelled_not_too_deep (IsProgram found.length) 64 found.items p place s (too_deep_here f names lexemes length_name place has k)
-no_refusal f p s one small _ (not_built {names} {program} spells k) =
-    let Small : Program → Type 0 = λ q. IsSmall q in k (subst Small (one names program spells) small)
+-- no other program than this is spelled
+abbrev pub IsOnly : List ℕ → Program → Type 0
+IsOnly text p = (others : List (List ℕ)) (q : Program) → SpellsProgram text others q → p ≡ q
 
--- a text that spells another program is refused for that alone
-pub only_not_built : {text : List ℕ} {names : List (List ℕ)} {found : Tokens} → Found text names found → (p : Program) → SpellsWithin (IsProgram found.length) 64 found.items p
-    → HasOnly text refusal.NotBuilt
-only_not_built f p s _ (bad_byte x) = absurd (f.faultless _ x)
-only_not_built f p s _ (bad_number x) = absurd (f.faultless _ x)
-only_not_built f p s _ (open_comment x) = absurd (f.faultless _ x)
-only_not_built f p s _ (full x) = absurd (f.faultless _ x)
-only_not_built {text = text} {found = found} f p s _ (unexpected {names} {lexemes} {length_name} {place} has k) =
+-- a text that spells a program is refused for nothing but what the program is refused for
+refusal_of_program : {text : List ℕ} {names : List (List ℕ)} {found : Tokens} → Found text names found → (p : Program) → SpellsWithin (IsProgram found.length) 64 found.items p → IsOnly text p
+    → (r : Refusal) → IsRefused text r → IsProgramRefused p r
+refusal_of_program f p s one _ (bad_byte x) = absurd (f.faultless _ x)
+refusal_of_program f p s one _ (bad_number x) = absurd (f.faultless _ x)
+refusal_of_program f p s one _ (open_comment x) = absurd (f.faultless _ x)
+refusal_of_program f p s one _ (full x) = absurd (f.faultless _ x)
+refusal_of_program {text = text} {found = found} f p s one _ (unexpected {names} {lexemes} {length_name} {place} has k) =
     absurd (spelled_not_unexpected (IsProgram found.length) 64 (length text) found.items p place s (unexpected_here f names lexemes length_name place has k))
-only_not_built {found = found} f p s _ (too_deep {names} {lexemes} {length_name} {place} has k) =
+refusal_of_program {found = found} f p s one _ (too_deep {names} {lexemes} {length_name} {place} has k) =
     absurd (spelled_not_too_deep (IsProgram found.length) 64 found.items p place s (too_deep_here f names lexemes length_name place has k))
-only_not_built f p s _ (not_built spells k) = refl
+refusal_of_program f p s one _ (of_program {names} {program} {refusal = r} spells k) =
+    let P : Program → Type 0 = λ q. IsProgramRefused q r in subst P (sym (one names program spells)) k
+
+-- a text that spells an accepted program has no refusal
+pub no_refusal : {text : List ℕ} {names : List (List ℕ)} {found : Tokens} → Found text names found → (p : Program) → SpellsWithin (IsProgram found.length) 64 found.items p → IsOnly text p
+    → IsAccepted p → HasNoRefusal text
+no_refusal f p s one accepted r refused = accepted_unrefused p r accepted (refusal_of_program f p s one r refused)
+
+-- a text that spells a refused program is refused for the same, and for nothing else
+refused_text : {text : List ℕ} {names : List (List ℕ)} {found : Tokens} → Found text names found → (p : Program) → SpellsWithin (IsProgram found.length) 64 found.items p → IsOnly text p
+    → (fault : TextFault) → RefusesProgram p fault → Refuses text fault
+refused_text f p s one (Refused r) h = (of_program (program_here f p s) h, λ other k. one_refusal p r other h (refusal_of_program f p s one other k))
+refused_text f p s one NoMemory h = tt
+
+-- the same of the answer that carries the fault on
+pub refused_by_program : {text : List ℕ} {names : List (List ℕ)} {found : Tokens} → Found text names found → (p : Program) → SpellsWithin (IsProgram found.length) 64 found.items p → IsOnly text p
+    → (e : TextFault) (r : Result Program TextFault) → RefusesProgram p e → IsErrAnd r (λ x. x ≡ e) → IfErr r (λ fault. Refuses text fault)
+refused_by_program f p s one e (Ok q) h k = tt
+refused_by_program {text = text} f p s one e (Err x) h k =
+    subst (λ (y : TextFault). Refuses text y) (sym k) (refused_text f p s one e h)
+
+-- a text that spells a refused program spells no accepted one
+none_of_program : (text : List ℕ) (p : Program) → IsOnly text p → (fault : TextFault) → RefusesProgram p fault → fault ≢ NoMemory → SpellsNone text
+none_of_program text p one (Refused r) h filled = λ names q spells.
+    let P : Program → Type 0 = λ x. IsProgramRefused x r in accepted_unrefused q r spells.accepted (subst P (one names q spells.spells) h)
+none_of_program text p one NoMemory h filled = absurd (filled refl)
+
+-- the same of the answer that carries the fault on
+pub none_by_program : (text : List ℕ) (p : Program) → IsOnly text p → (e : TextFault) (r : Result Program TextFault) → RefusesProgram p e → IsErrAnd r (λ x. x ≡ e)
+    → IfErr r (λ fault. fault ≢ NoMemory → SpellsNone text)
+none_by_program text p one e (Ok q) h k = tt
+none_by_program text p one e (Err x) h k =
+    subst (λ (y : TextFault). y ≢ NoMemory → SpellsNone text) (sym k) (none_of_program text p one e h)

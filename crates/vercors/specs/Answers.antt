@@ -66,8 +66,8 @@ IsOfText Refused = Unit {0}
 IsOfText TextRefused = Unit {0}
 IsOfText _ = ⊥
 
--- the text is refused exactly where it spells no small program, and wherever it has some refusal; the program is refused
--- exactly where some run fails; a program that passed is safe
+-- the text is refused exactly where it spells no small program without faults, and wherever it has some refusal; the program
+-- is refused exactly where some run fails; a program that passed is safe
 pub record IsStatusOf (text : List ℕ) (status : Status) : Type 0 where
   pub text_refused : (status ≡ TextRefused) ↔ SpellsNone text
   pub has_refusal : (r : Refusal) → IsRefused text r → status ≡ TextRefused

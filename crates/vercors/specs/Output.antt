@@ -5,6 +5,8 @@ use Rattle.std.specs.List.{flat_map, list_any}
 use Rattle.pv_base.specs.declared.Name.{Name}
 use Rattle.pv_base.specs.declared.Span.{Span}
 use Rattle.pv_base.specs.Place.{line_at, column_at}
+use Rattle.pv_rules.specs.declared.fault.Rule.{Rule}
+use Rattle.pv_rules.specs.declared.fault.Rule.TheVariants as rule
 use Rattle.small_verdicts.specs.declared.SmallCheck.{SmallCheck}
 use Rattle.small_verdicts.specs.declared.SmallCheck.TheVariants.{Assert, Ensures}
 use Rattle.small_verdicts.specs.declared.SmallVerdict.{SmallVerdict}
@@ -46,6 +48,29 @@ place_text text at = decimal (line_at text at) ++ codes ":" ++ decimal (column_a
 abbrev pub span_text : List ℕ → Span → List ℕ
 span_text text span = place_text text span.from ++ codes "-" ++ place_text text span.to
 
+-- the name of a static rule
+abbrev pub static_rule_text : Rule → List ℕ
+static_rule_text rule.UnknownName = codes "UnknownName"
+static_rule_text rule.Duplicate = codes "Duplicate"
+static_rule_text rule.Shadows = codes "Shadows"
+static_rule_text rule.WrongType = codes "WrongType"
+static_rule_text rule.WrongCount = codes "WrongCount"
+static_rule_text rule.NotPure = codes "NotPure"
+static_rule_text rule.NoReturn = codes "NoReturn"
+static_rule_text rule.ReturnPlace = codes "ReturnPlace"
+static_rule_text rule.ResultPlace = codes "ResultPlace"
+static_rule_text rule.OldPlace = codes "OldPlace"
+static_rule_text rule.NotAssignable = codes "NotAssignable"
+static_rule_text rule.NotALocation = codes "NotALocation"
+static_rule_text rule.BadFraction = codes "BadFraction"
+static_rule_text rule.NoRole = codes "NoRole"
+static_rule_text rule.BarrierPlace = codes "BarrierPlace"
+static_rule_text rule.BodyForm = codes "BodyForm"
+static_rule_text rule.MessagePlace = codes "MessagePlace"
+static_rule_text rule.MessageRule = codes "MessageRule"
+static_rule_text rule.FormulaScope = codes "FormulaScope"
+static_rule_text rule.RangeName = codes "RangeName"
+
 -- the name of the rule for which a text is refused
 abbrev pub rule_text : Refusal → List ℕ
 rule_text (refusal.BadByte at) = codes "BadByte"
@@ -54,6 +79,9 @@ rule_text (refusal.OpenComment at) = codes "OpenComment"
 rule_text refusal.Full = codes "Full"
 rule_text (refusal.Unexpected span) = codes "Unexpected"
 rule_text (refusal.TooDeep span) = codes "TooDeep"
+rule_text (refusal.Broken rule span) = static_rule_text rule
+rule_text (refusal.QuantifierShape span) = codes "QuantifierShape"
+rule_text (refusal.ItemShape span) = codes "ItemShape"
 rule_text refusal.NotBuilt = codes "NotBuilt"
 
 -- what stands behind it: where the fault is
@@ -64,6 +92,9 @@ text_behind_rule text (refusal.OpenComment at) = codes " " ++ place_text text at
 text_behind_rule text refusal.Full = []
 text_behind_rule text (refusal.Unexpected span) = codes " " ++ span_text text span
 text_behind_rule text (refusal.TooDeep span) = codes " " ++ span_text text span
+text_behind_rule text (refusal.Broken rule span) = codes " " ++ span_text text span
+text_behind_rule text (refusal.QuantifierShape span) = codes " " ++ span_text text span
+text_behind_rule text (refusal.ItemShape span) = codes " " ++ span_text text span
 text_behind_rule text refusal.NotBuilt = []
 
 -- the line of a refused text: `TextRefused RULE PLACE`, `TextRefused RULE SPAN` or `TextRefused RULE`

@@ -1,5 +1,5 @@
 -- Which refusal a text has.
-use Rattle.std.specs.Prelude.{◌≡◌, ℕ, List, [], length, Option}
+use Rattle.std.specs.Prelude.{◌≡◌, ℕ, List, [], length, Option, Some}
 use Rattle.pv_base.specs.declared.Name.{Name}
 use Rattle.pv_base.specs.declared.Span.{Span}
 use Rattle.pv_ast.specs.declared.Program.{Program}
@@ -8,13 +8,29 @@ use Rattle.pv_tokens.specs.declared.TokenFault.TheVariants as token
 use Rattle.pv_tokens.specs.Progress.{IsFault}
 use Rattle.pv_reading.specs.Spelled.{IsUnexpected, IsTooDeep}
 use Rattle.pv_parser.specs.Grammar.{IsProgram}
+use Rattle.pv_rules.specs.declared.fault.Rule.{Rule}
+use Rattle.pv_rules.specs.declared.fault.ShapeFault.TheVariants as shape
+use Rattle.pv_rules.specs.Faults.{IsFirst, first_of}
+use Rattle.pv_rules.specs.Programs.{faults_of_program, KeepsRules}
+use Rattle.pv_rules.specs.Shapes as shapes
 use Rattle.small_meaning.specs.Small.{IsSmall}
 use Rattle.vercors.specs.declared.refusing.Refusal.{Refusal}
-use Rattle.vercors.specs.declared.refusing.Refusal.TheVariants.{BadByte, BadNumber, OpenComment, Full, Unexpected, TooDeep, NotBuilt}
+use Rattle.vercors.specs.declared.refusing.Refusal.TheVariants.{BadByte, BadNumber, OpenComment, Full, Unexpected, TooDeep, Broken, QuantifierShape, ItemShape, NotBuilt}
 use Rattle.vercors.specs.Texts.{HasTokens, SpellsProgram}
 
+-- The program is refused for this: the first static rule that it breaks; where it breaks none, its first fault of shape; and
+-- where it has none either, that it isn't small.
+pub data IsProgramRefused (program : Program) : Refusal → Type 0 where
+  broken : {rule : Rule} {span : Span} → IsFirst (record { rule = rule; span = span }) (faults_of_program program)
+      → first_of (faults_of_program program) ≡ Some (record { rule = rule; span = span }) → IsProgramRefused program (Broken rule span)
+  quantifier_shape : {span : Span} → KeepsRules program → shapes.first_of (shapes.shape_faults_of program) ≡ Some (shape.QuantifierShape span)
+      → IsProgramRefused program (QuantifierShape span)
+  item_shape : {span : Span} → KeepsRules program → shapes.first_of (shapes.shape_faults_of program) ≡ Some (shape.ItemShape span)
+      → IsProgramRefused program (ItemShape span)
+  not_built : KeepsRules program → shapes.shape_faults_of program ≡ [] → (IsSmall program → ⊥) → IsProgramRefused program NotBuilt
+
 -- The text is refused for this: its first fault where it has no tokens, the first fault of its tokens where they spell no
--- program, and else that it spells a program which is no small one.
+-- program, and else what the program that it spells is refused for.
 pub data IsRefused (text : List ℕ) : Refusal → Type 0 where
   bad_byte : {at : ℕ} → IsFault text [] (token.BadByte at) → IsRefused text (BadByte at)
   bad_number : {at : ℕ} → IsFault text [] (token.BadNumber at) → IsRefused text (BadNumber at)
@@ -24,7 +40,7 @@ pub data IsRefused (text : List ℕ) : Refusal → Type 0 where
       → HasTokens text names lexemes length_name → IsUnexpected (IsProgram length_name) 64 (length text) lexemes place → IsRefused text (Unexpected place)
   too_deep : {names : List (List ℕ)} {lexemes : List Lexeme} {length_name : Option Name} {place : Span}
       → HasTokens text names lexemes length_name → IsTooDeep (IsProgram length_name) 64 lexemes place → IsRefused text (TooDeep place)
-  not_built : {names : List (List ℕ)} {program : Program} → SpellsProgram text names program → (IsSmall program → ⊥) → IsRefused text NotBuilt
+  of_program : {names : List (List ℕ)} {program : Program} {refusal : Refusal} → SpellsProgram text names program → IsProgramRefused program refusal → IsRefused text refusal
 
 -- the text has no other refusal than this
 abbrev pub HasOnly : List ℕ → Refusal → Type 0

@@ -9,6 +9,8 @@ use Rattle.pv_tokens.specs.Progress.{IsTokens}
 use Rattle.pv_tokens.specs.Lexemes.{IsNumberOf}
 use Rattle.pv_reading.specs.Spelled.{SpellsWithin}
 use Rattle.pv_parser.specs.Grammar.{IsProgram}
+use Rattle.pv_rules.specs.Programs.{KeepsRules}
+use Rattle.pv_rules.specs.Shapes.{shape_faults_of}
 use Rattle.small_meaning.specs.Small.{IsSmall}
 use Rattle.small_meaning.specs.Running.{Arguments, Meets, Check, failed, run_of}
 use Rattle.small_meaning.specs.Grounds.{NoRunFails}
@@ -26,12 +28,18 @@ pub record SpellsProgram (text : List ℕ) (names : List (List ℕ)) (program : 
   pub tokens : HasTokens text names lexemes length_name
   pub spelled : SpellsWithin (IsProgram length_name) 64 lexemes program
 
--- the text spells the program, which is a small one
-pub record SpellsSmallProgram (text : List ℕ) (names : List (List ℕ)) (program : Program) : Type 0 where
-  pub spells : SpellsProgram text names program
+-- a program that is verified: it breaks no static rule, has no fault of shape, and is small
+pub record IsAccepted (program : Program) : Type 0 where
+  pub rules : KeepsRules program
+  pub shapes : shape_faults_of program ≡ []
   pub small : IsSmall program
 
--- the text spells no small program
+-- the text spells the program, which is a small one without faults
+pub record SpellsSmallProgram (text : List ℕ) (names : List (List ℕ)) (program : Program) : Type 0 where
+  pub spells : SpellsProgram text names program
+  pub accepted : IsAccepted program
+
+-- the text spells no small program without faults
 abbrev pub SpellsNone : List ℕ → Type 0
 SpellsNone text = (names : List (List ℕ)) (program : Program) → SpellsSmallProgram text names program → ⊥
 
@@ -49,7 +57,7 @@ pub record SomeRunFails (program : Program) : Type 0 where
   pub span : Span
   pub fails : run_of method arguments ≡ failed check span
 
--- the text spells a small program of which this is so
+-- the text spells a small program without faults, of which this is so
 pub record Spells (text : List ℕ) (IsSo : Program → Type 0) : Type 0 where
   pub names : List (List ℕ)
   pub program : Program

@@ -10,8 +10,9 @@ ghost use Rattle.vercors.specs.Answers.{limit, IsTextAnswer, IsFileAnswer, IsAns
 
 use crate::command::{Words, file_to_verify};
 use crate::ending::{Answer, Status};
+use crate::fault::TextFault;
 use crate::judging::judge;
-use crate::reading::{TextFault, read_program};
+use crate::reading::read_program;
 use crate::refusing::{Refusal, line_of_refusal};
 use crate::report::{report, status_of};
 use pv_ast::Program;
@@ -19,6 +20,7 @@ use pv_base::NoMemory;
 use pv_io::{LoadFault, Shelf, load};
 use pv_names::Names;
 use small_meaning::safe_where_no_run_fails;
+use small_typing::keeps_small_rules;
 use sqlite_items::Items;
 use std::alloc::Global;
 
@@ -58,6 +60,7 @@ fn answer_to_program(
     ensures { IfOk result (λ answer. IsTextAnswer text.now answer.status answer.output) }
 {
     safe_where_no_run_fails();
+    keeps_small_rules(program);
     let judged = judge(alloc, program)?;
     let status = status_of(judged.as_slice());
     let output = report(alloc, text, names, judged.as_slice())?;

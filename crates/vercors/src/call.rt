@@ -12,8 +12,8 @@ use std::alloc::Global;
 
 /// Does what the words say, with the files of the shelf, writes the output to the sink, and answers how it ended.
 ///
-/// The one form of the words is `verify FILE`, which gives a verdict on each method of a small program. A text that spells none
-/// is answered by its refusal, with its place. A stage that refuses stops the rest: the words; the opening of the file, its
+/// The one form of the words is `verify FILE`, which gives a verdict on each method of a small program. A text that spells none,
+/// or one with faults, is answered by its refusal, with its place. A stage that refuses stops the rest: the words; the opening of the file, its
 /// reading, its size; the text; the verdicts; the writing. The output is made whole before the first byte is written, and no
 /// memory is taken after that.
 pub fn vercors<F: Shelf, W: Sink>(
@@ -25,7 +25,8 @@ pub fn vercors<F: Shelf, W: Sink>(
     requires hits_left { F.hits shelf.old < last_count }
     requires misses_left { F.misses shelf.old < last_count }
 
-    // What passed is safe; a text is refused exactly where it spells no small program, a program exactly where some run fails.
+    // What passed is safe; a text is refused exactly where it spells no small program without faults, a program exactly where
+    // some run fails.
     ensures text { IsOfText result → ReadsText (F.files shelf.old) words.now result }
 
     // The bytes that are written: those of the right answer, a prefix of them where the writing failed, or none.

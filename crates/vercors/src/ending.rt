@@ -11,7 +11,7 @@ pub enum Status {
     Passed,
     /// Some verdict is Fail.
     Refused,
-    /// The text spells no small program.
+    /// The text spells no small program without faults.
     TextRefused,
     /// Some verdict is open, since there are too many paths.
     Splits,

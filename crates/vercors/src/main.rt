@@ -7,12 +7,15 @@ mod answering;
 mod call;
 mod command;
 mod ending;
+mod fault;
 mod judging;
 mod lines;
 mod places;
 mod reading;
 mod refusing;
 mod report;
+#[cfg(test)]
+mod rule_tests;
 #[cfg(test)]
 mod tests;
 

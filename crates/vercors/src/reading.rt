@@ -1,69 +1,33 @@
 //! From a text to the small program that it spells.
-ghost use Rattle.std.specs.Prelude.{◌≡◌, ◌≢◌, ◌≤◌, ◌^◌, [], length, IfOk, IfErr};
+ghost use Rattle.std.specs.Prelude.{◌≡◌, ◌≢◌, ◌≤◌, ◌^◌, [], length, OnOk, IfOk, IfErr};
 ghost use Rattle.pv_ast.specs.Measures.{literals_of_program};
-ghost use Rattle.vercors.specs.Texts.{SpellsSmallProgram, SpellsNone, SpellsOnly};
+ghost use Rattle.vercors.specs.Texts.{IsAccepted, SpellsSmallProgram, SpellsNone, SpellsOnly};
+ghost use Rattle.vercors.specs.Refusals.{HasNoRefusal};
+ghost use Rattle.vercors.specs.Faults.{RefusesProgram, Refuses};
 
+use crate::fault::TextFault;
 use crate::refusing::Refusal;
 use pv_ast::Program;
-use pv_base::NoMemory;
 use pv_names::Names;
 use pv_parser::{few_literals, program};
-use pv_reading::ParseFault;
-use pv_tokens::TokenFault;
+use pv_shapes::check_shapes;
 use pv_tokens::reading::tokens;
+use pv_types::check_types;
 use small_rules::is_small;
 use std::alloc::Global;
 
-/// Why a text was not read.
-#[derive(Clone, Copy, Debug, PartialEq, Eq, Drop)]
-pub enum TextFault {
-    /// It is refused.
-    Refused(Refusal),
-    /// Memory ran out.
-    NoMemory,
-}
-
-ghost use Rattle.vercors.specs.Refusals.{HasNoRefusal};
-ghost use Rattle.vercors.specs.Faults.{Refuses};
-
-impl From<NoMemory> for TextFault {
-    ghost use Rattle.std.specs.Prelude.{◌≡◌};
-    ghost use Rattle.vercors.specs.declared.reading.TextFault.TheVariants.{NoMemory as no_memory};
-
-    ghost from_gives = { λ _ fault. fault ≡ no_memory };
-
-    fn from(_: NoMemory) -> TextFault {
-        TextFault::NoMemory
-    }
-}
-
-impl From<TokenFault> for TextFault {
-    ghost use Rattle.vercors.specs.Faults.{OfTokens};
-
-    ghost from_gives = { OfTokens };
-
-    fn from(fault: TokenFault) -> TextFault {
-        match fault {
-            TokenFault::BadByte(at) => TextFault::Refused(Refusal::BadByte(at)),
-            TokenFault::BadNumber(at) => TextFault::Refused(Refusal::BadNumber(at)),
-            TokenFault::OpenComment(at) => TextFault::Refused(Refusal::OpenComment(at)),
-            TokenFault::Full => TextFault::Refused(Refusal::Full),
-            TokenFault::NoMemory => TextFault::NoMemory,
-        }
-    }
-}
-
-impl From<ParseFault> for TextFault {
-    ghost use Rattle.vercors.specs.Faults.{OfParsing};
-
-    ghost from_gives = { OfParsing };
-
-    fn from(fault: ParseFault) -> TextFault {
-        match fault {
-            ParseFault::Unexpected(place) => TextFault::Refused(Refusal::Unexpected(place)),
-            ParseFault::TooDeep(place) => TextFault::Refused(Refusal::TooDeep(place)),
-            ParseFault::NoMemory => TextFault::NoMemory,
-        }
+/// Whether a program is small, and breaks no static rule and no rule of shape. The error is what it is refused for: a broken
+/// rule before a fault of shape, and a fault of shape before the form of small programs.
+fn check_program(alloc: Global, program: &Program) -> Result<(), TextFault>
+    ensures passes { OnOk result (IsAccepted program.now) }
+    ensures refuses { IfErr result (λ fault. RefusesProgram program.now fault) }
+{
+    check_types(alloc, program)?;
+    check_shapes(program)?;
+    if is_small(program) {
+        Ok(())
+    } else {
+        Err(TextFault::Refused(Refusal::NotBuilt))
     }
 }
 
@@ -81,9 +45,6 @@ pub fn read_program(alloc: Global, text: &[u8], names: &mut Names) -> Result<Pro
     few_literals();
     let found = tokens(alloc, text, names)?;
     let program = program(alloc, &found)?;
-    if is_small(alloc, &program)? {
-        Ok(program)
-    } else {
-        Err(TextFault::Refused(Refusal::NotBuilt))
-    }
+    check_program(alloc, &program)?;
+    Ok(program)
 }

@@ -5,6 +5,7 @@ use crate::lines::{put_place, put_span};
 use crate::places::START;
 use pv_base::Span;
 use pv_io::Bytes;
+use pv_rules::Rule;
 use sqlite_items::Items;
 use std::alloc::{AllocError, Global};
 
@@ -23,11 +24,45 @@ pub enum Refusal {
     Unexpected(Span),
     /// This token opens one construct more than the 64 that may be open.
     TooDeep(Span),
+    /// The program breaks this static rule here, and none before.
+    Broken(Rule, Span),
+    /// Here a quantifier stands in a wrong place, or a part of a quantifier's body is no item.
+    QuantifierShape(Span),
+    /// Here a part of a clause of a block, loop or barrier, or of a message, is no item.
+    ItemShape(Span),
     /// The program is no small one.
     NotBuilt,
 }
 
-ghost use Rattle.vercors.specs.Output.{rule_text, text_behind_rule, refusal_line};
+ghost use Rattle.vercors.specs.Output.{static_rule_text, rule_text, text_behind_rule, refusal_line};
+
+/// The name of a static rule.
+fn text_of_rule(rule: Rule) -> &'static [u8]
+    ensures { result.now ≡ static_rule_text rule }
+{
+    match rule {
+        Rule::UnknownName => b"UnknownName",
+        Rule::Duplicate => b"Duplicate",
+        Rule::Shadows => b"Shadows",
+        Rule::WrongType => b"WrongType",
+        Rule::WrongCount => b"WrongCount",
+        Rule::NotPure => b"NotPure",
+        Rule::NoReturn => b"NoReturn",
+        Rule::ReturnPlace => b"ReturnPlace",
+        Rule::ResultPlace => b"ResultPlace",
+        Rule::OldPlace => b"OldPlace",
+        Rule::NotAssignable => b"NotAssignable",
+        Rule::NotALocation => b"NotALocation",
+        Rule::BadFraction => b"BadFraction",
+        Rule::NoRole => b"NoRole",
+        Rule::BarrierPlace => b"BarrierPlace",
+        Rule::BodyForm => b"BodyForm",
+        Rule::MessagePlace => b"MessagePlace",
+        Rule::MessageRule => b"MessageRule",
+        Rule::FormulaScope => b"FormulaScope",
+        Rule::RangeName => b"RangeName",
+    }
+}
 
 /// The name of the rule for which a text is refused.
 fn rule_of(refusal: Refusal) -> &'static [u8]
@@ -40,6 +75,9 @@ fn rule_of(refusal: Refusal) -> &'static [u8]
         Refusal::Full => b"Full",
         Refusal::Unexpected(_) => b"Unexpected",
         Refusal::TooDeep(_) => b"TooDeep",
+        Refusal::Broken(rule, _) => text_of_rule(rule),
+        Refusal::QuantifierShape(_) => b"QuantifierShape",
+        Refusal::ItemShape(_) => b"ItemShape",
         Refusal::NotBuilt => b"NotBuilt",
     }
 }
@@ -55,7 +93,11 @@ fn put_behind_rule(output: &mut Vec<u8>, text: &[u8], refusal: Refusal) -> Resul
             output.extend_from_slice(b" ")?;
             put_place(output, text, at, &mut near)
         }
-        Refusal::Unexpected(span) | Refusal::TooDeep(span) => {
+        Refusal::Unexpected(span)
+        | Refusal::TooDeep(span)
+        | Refusal::Broken(_, span)
+        | Refusal::QuantifierShape(span)
+        | Refusal::ItemShape(span) => {
             output.extend_from_slice(b" ")?;
             put_span(output, text, span, &mut near)
         }

@@ -36,6 +36,8 @@ const FAILING: &[u8] = b"class Abs {
 const TWO_FAIL: &[u8] =
     b"class C {\n  void a() { assert 1 < 0; }\n  void b() { assert 0 < 0; }\n}\n";
 
+const TWO_CLASSES: &[u8] = b"class C {\n  void a() { }\n}\nclass D {\n  int b() { return 1; }\n}\n";
+
 const UNMET: &[u8] = b"class Abs {
   requires 0 <= x && x < 0;
   ensures \\result == x + 1;
@@ -63,13 +65,13 @@ const GROUPED: &[u8] = b"class Abs {
 
 /// The calls of the shelf and of the sink that fail, and those of the sink that take nothing.
 #[derive(Clone, Copy)]
-struct Faults<'a> {
+pub(crate) struct Faults<'a> {
     reads: &'a [u64],
     writes: &'a [u64],
     empties: &'a [u64],
 }
 
-const NONE: Faults = Faults {
+pub(crate) const NONE: Faults = Faults {
     reads: &[],
     writes: &[],
     empties: &[],
@@ -111,13 +113,13 @@ fn run(
     Ok((status, Items::from_slice(alloc, sink.written())?))
 }
 
-fn verify(alloc: Global, text: &[u8], faults: Faults) -> Result<(Status, Bytes), Fail> {
+pub(crate) fn verify(alloc: Global, text: &[u8], faults: Faults) -> Result<(Status, Bytes), Fail> {
     run(alloc, &[b"verify", b"next.pvl"], text, faults)
 }
 
 #[test]
 fn texts(rt: HostRuntime) -> Result<(), Fail> {
-    let rows: [(&[u8], Status, &[u8]); 7] = [
+    let rows: [(&[u8], Status, &[u8]); 8] = [
         (NEXT, Status::Passed, b"Pass Abs.next\nPass\n"),
         (
             FAILING,
@@ -132,7 +134,8 @@ fn texts(rt: HostRuntime) -> Result<(), Fail> {
         (UNMET, Status::Passed, b"Empty Abs.next\nPass\n"),
         (GROUPED, Status::Passed, b"Pass Abs.next\nPass\n"),
         (LOOPING, Status::TextRefused, b"TextRefused NotBuilt\n"),
-        (b"", Status::TextRefused, b"TextRefused NotBuilt\n"),
+        (TWO_CLASSES, Status::Passed, b"Pass C.a\nPass D.b\nPass\n"),
+        (b"", Status::Passed, b"Pass\n"),
     ];
     for (text, status, output) in rows {
         let (answer, written) = verify(rt.alloc(), text, NONE)?;
@@ -144,7 +147,7 @@ fn texts(rt: HostRuntime) -> Result<(), Fail> {
 
 #[test]
 fn refused_texts(rt: HostRuntime) -> Result<(), Fail> {
-    let rows: [(&[u8], &[u8]); 9] = [
+    let rows: [(&[u8], &[u8]); 8] = [
         (b"class C { int x; } %", b"TextRefused BadByte 1:20\n"),
         (
             b"class C {\n  int x = 9223372036854775808;\n}",
@@ -155,10 +158,45 @@ fn refused_texts(rt: HostRuntime) -> Result<(), Fail> {
         (b"class C {", b"TextRefused Unexpected 1:10-1:10\n"),
         (b"class C { } class C %", b"TextRefused BadByte 1:21\n"),
         (b"class C { int x; }", b"TextRefused NotBuilt\n"),
-        (b"class C { } class D { }", b"TextRefused NotBuilt\n"),
         (
             b"class C { void f() { boolean b; } }",
             b"TextRefused NotBuilt\n",
+        ),
+    ];
+    for (text, output) in rows {
+        let (answer, written) = verify(rt.alloc(), text, NONE)?;
+        assert_eq!(rt; answer, Status::TextRefused);
+        assert_eq!(rt; written.as_slice(), output);
+    }
+    Ok(())
+}
+
+#[test]
+fn faulty_texts(rt: HostRuntime) -> Result<(), Fail> {
+    let rows: [(&[u8], &[u8]); 6] = [
+        (
+            b"class A { void f() { int x = y; } }",
+            b"TextRefused UnknownName 1:30-1:31\n",
+        ),
+        (
+            b"class C { } class C { }",
+            b"TextRefused Duplicate 1:19-1:20\n",
+        ),
+        (
+            b"class C { int x; void f() { assert 7; } }",
+            b"TextRefused WrongType 1:36-1:37\n",
+        ),
+        (
+            b"class Q { requires (\\forall int i = 0 .. n; a[i] == i); void f(int[] a, int n) { } }",
+            b"TextRefused QuantifierShape 1:45-1:54\n",
+        ),
+        (
+            b"class Q { requires (\\forall int i = 0 .. n; a[i] == i); void f(int[] a, int n) { int x = y; } }",
+            b"TextRefused UnknownName 1:90-1:91\n",
+        ),
+        (
+            b"class S { void f(int[] a, int n) { par (int i = 0 .. n) requires Perm(a[n - i], write); { } } }",
+            b"TextRefused ItemShape 1:66-1:87\n",
         ),
     ];
     for (text, output) in rows {

@@ -1,0 +1,11 @@
+pub mod Faults
+pub mod Lookup
+pub mod Scoping
+pub mod Typing
+pub mod Parts
+pub mod Statements
+pub mod Programs
+pub mod Items
+pub mod Shapes
+pub mod Numbers
+pub mod WellFormed

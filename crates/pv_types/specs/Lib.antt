@@ -1,0 +1,5 @@
+pub mod Arounds
+pub mod Bounds
+pub mod Walks
+pub mod Sets
+pub mod TypeFaults

@@ -1,0 +1,74 @@
+ghost use Rattle.std.specs.Prelude.{◌≡◌, OnOk, if◌then◌else◌};
+ghost use Rattle.pv_rules.specs.Faults.{least};
+ghost use Rattle.pv_rules.specs.Statements as stated;
+ghost use Rattle.pv_types.specs.Arounds.{around_of};
+
+use crate::around::Around;
+use crate::expressions::part;
+use pv_ast::{Clause, ClauseKind, Expr, PvType};
+use pv_base::NoMemory;
+use pv_rules::{Context, Fault, Need};
+use pv_scopes::Visible;
+
+/// Notes the faults of a formula.
+pub(crate) fn formula(
+    e: &Expr,
+    around: &Around,
+    context: Context,
+    visible: &mut Visible,
+    first: &mut Option<Fault>,
+) -> Result<(), NoMemory>
+    ensures found { OnOk result (first.new ≡ least first.old (stated.faults_of_formula (around_of around.now) visible.old context e.now)) }
+    ensures same { OnOk result (visible.new ≡ visible.old) }
+{
+    let a_truth = Need::Exactly(PvType::Truth);
+    part(e, around, context, a_truth, visible, first)?;
+    Ok(())
+}
+
+/// Notes the faults of formulas.
+pub(crate) fn formulas(
+    es: &[Expr],
+    around: &Around,
+    context: Context,
+    visible: &mut Visible,
+    first: &mut Option<Fault>,
+) -> Result<(), NoMemory>
+    ensures found { OnOk result (first.new ≡ least first.old (stated.faults_of_formulas (around_of around.now) visible.old context es.now)) }
+    ensures same { OnOk result (visible.new ≡ visible.old) }
+{
+    for e in es {
+        formula(e, around, context, visible, first)?;
+    }
+    Ok(())
+}
+
+/// The context of a clause of such a kind.
+fn context_of(kind: ClauseKind, in_ensures: Context, others: Context) -> Context
+    ensures { result ≡ (if stated.is_ensures kind then in_ensures else others) }
+{
+    match kind {
+        ClauseKind::Ensures => in_ensures,
+        ClauseKind::Requires => others,
+        ClauseKind::Context => others,
+    }
+}
+
+/// Notes the faults of clauses, where an `ensures` stands in the first context and each other clause in the second.
+pub(crate) fn clauses(
+    clauses: &[Clause],
+    around: &Around,
+    in_ensures: Context,
+    others: Context,
+    visible: &mut Visible,
+    first: &mut Option<Fault>,
+) -> Result<(), NoMemory>
+    ensures found { OnOk result (first.new ≡ least first.old (stated.faults_of_clauses (around_of around.now) visible.old in_ensures others clauses.now)) }
+    ensures same { OnOk result (visible.new ≡ visible.old) }
+{
+    for clause in clauses {
+        let context = context_of(clause.kind, in_ensures, others);
+        formula(&clause.formula, around, context, visible, first)?;
+    }
+    Ok(())
+}

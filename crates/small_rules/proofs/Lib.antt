@@ -1,4 +1,0 @@
-pub mod Distinct
-pub mod Endings
-pub mod Extending
-pub mod Marks
