@@ -1,0 +1,4 @@
+pub mod Comparisons
+pub mod Keeping
+pub mod Standing
+pub mod Writes

@@ -1,0 +1,4 @@
+pub mod Changes
+pub mod Heaps
+pub mod Sames
+pub mod Typing
