@@ -85,3 +85,26 @@ fn many_elements(rt: HostRuntime) -> Result<(), Fail> {
     assert_eq!(rt; heap.read(&Location::Cell(1, 1_048_576)), None);
     Ok(())
 }
+
+#[test]
+fn writes_through_aliases(rt: HostRuntime) -> Result<(), Fail> {
+    let (mut heap, object, array) = two(rt.alloc()).expect(&rt, "memory");
+    assert_eq!(rt;
+        heap.read(&Location::Field(object, NEXT)),
+        Some(Value::Reference(array))
+    );
+    let one = Location::Cell(array, 0);
+    let other = Location::Cell(2, 0);
+    assert!(rt; heap.read(&one).is_some());
+    heap.write(&one, Value::Number(11));
+    assert_eq!(rt; heap.read(&other), Some(Value::Number(11)));
+    let field = Location::Field(object, ITEM);
+    assert!(rt; heap.read(&field).is_some());
+    heap.write(&field, Value::Truth(false));
+    assert_eq!(rt;
+        heap.read(&Location::Field(1, ITEM)),
+        Some(Value::Truth(false))
+    );
+    assert_eq!(rt; heap.read(&other), Some(Value::Number(11)));
+    Ok(())
+}
