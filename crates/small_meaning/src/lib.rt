@@ -1,6 +1,5 @@
 //! What small programs mean: the sorts of their expressions, their values, the machine that runs them, the grounds of
-//! verdicts, and the rules that they keep. Small programs have one class, and methods over whole numbers without loops and
-//! calls.
+//! verdicts, and the rules that they keep. Small programs have classes of methods over whole numbers, without loops and calls.
 #![tactic(auto)]
 
 ghost use Rattle.pv_ast.specs.declared.Program.{Program};

@@ -1,7 +1,6 @@
 //! Why a text was not read, and what the faults of each stage of reading are among these.
 
 use crate::refusing::Refusal;
-use pv_base::NoMemory;
 use pv_reading::ParseFault;
 use pv_shapes::ShapeFault;
 use pv_tokens::TokenFault;
@@ -14,17 +13,6 @@ pub enum TextFault {
     Refused(Refusal),
     /// Memory ran out.
     NoMemory,
-}
-
-impl From<NoMemory> for TextFault {
-    ghost use Rattle.std.specs.Prelude.{◌≡◌};
-    ghost use Rattle.vercors.specs.declared.fault.TextFault.TheVariants.{NoMemory as no_memory};
-
-    ghost from_gives = { λ _ fault. fault ≡ no_memory };
-
-    fn from(_: NoMemory) -> TextFault {
-        TextFault::NoMemory
-    }
 }
 
 impl From<TokenFault> for TextFault {
