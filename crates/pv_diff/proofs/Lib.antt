@@ -1,9 +1,17 @@
+pub mod Ascents
+pub mod Assigned
+pub mod Chaining
 pub mod Climbs
 pub mod Edges
 pub mod Follow
+pub mod Growth
 pub mod Loops
 pub mod Lowered
 pub mod Named
+pub mod Parts
+pub mod References
 pub mod Rounds
+pub mod Splits
 pub mod Sums
+pub mod Trees
 pub mod Written

@@ -13,7 +13,8 @@ use Rattle.pv_linear.proofs.Bounds.{within_more}
 use Rattle.pv_linear.proofs.MeetsLemmas.{Meets-get}
 use Rattle.pv_diff.specs.declared.table.Edge.{Edge}
 use Rattle.pv_diff.specs.declared.table.Entry.{Entry}
-use Rattle.pv_diff.specs.Answer.{IsAtMost, AllAtMost, reach}
+use Rattle.pv_diff.specs.Answer.{reach}
+use Rattle.pv_diff.specs.Parts.{IsAtMost, AllAtMost}
 use Rattle.pv_diff.specs.Conflict.{Walk, IsNegativeCycle}
 use Rattle.pv_diff.specs.Edges.{edge, AllBelow, widest, breadth, Trail, IsNegativeRound}
 use Rattle.pv_diff.specs.Slots.{IsEdge, AreEdges}

@@ -67,7 +67,7 @@ read_at s k x h = get_or_from_slice_get s k x 0 h
 pub found_at : (s : List ℕ) (k x : ℕ) → k < length s → get_or s k 0 ≡ x → slice_get s k ≡ Some x
 found_at s k x lt e = slice_get-get_or s k 0 lt ∙ ap (λ (n : ℕ). Some n) e
 
-order : (m n : ℕ) → (m < n) ⊎ (n ≤ m)
+pub order : (m n : ℕ) → (m < n) ⊎ (n ≤ m)
 order m zero = inr (omega arith)
 order zero (suc n) = inl (omega arith)
 order (suc m) (suc n) = elim (order m n) [ inl h ↦ inl (omega arith) | inr h ↦ inr (omega arith) ]

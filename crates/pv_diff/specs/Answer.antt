@@ -1,7 +1,7 @@
 -- What the solver's answer says.
 use Rattle.std.specs.Prelude.{ℕ, ◌+◌, ℤ, pos, ◌<ℤ◌, ◌≡◌, ◌⊎◌, List, [], ◌∷◌, Some, All, slice_get, slice_index_or}
 use Rattle.pv_linear.specs.declared.Literal.{Literal}
-use Rattle.pv_linear.specs.declared.Literal.TheVariants.{AtMost, Same, Differ}
+use Rattle.pv_linear.specs.declared.Literal.TheVariants.{AtMost}
 use Rattle.pv_linear.specs.declared.Symbol.{Symbol}
 use Rattle.pv_linear.specs.Values.{Values, values_of, IsWithin}
 use Rattle.pv_linear.specs.Literal.{Meets, bound_of}
@@ -10,17 +10,6 @@ use Rattle.pv_diff.specs.declared.Conflict.TheVariants.{Cycle, Clash}
 use Rattle.pv_diff.specs.declared.Solved.{Solved}
 use Rattle.pv_diff.specs.declared.Solved.TheVariants.{Yes, No}
 use Rattle.pv_diff.specs.Conflict.{IsNegativeCycle, IsClash}
-
--- the literal is a difference
-abbrev pub IsAtMost : Literal → Type 0
-IsAtMost (AtMost x y c) = Unit {0}
-IsAtMost (Same x y) = ⊥
-IsAtMost (Differ x y) = ⊥
-
--- every literal is a difference
-abbrev pub AllAtMost : List Literal → Type 0
-AllAtMost [] = Unit {0}
-AllAtMost (l ∷ ls) = IsAtMost l × AllAtMost ls
 
 -- the sizes of the bounds, and two for each literal, all together
 abbrev pub reach : List Literal → ℕ

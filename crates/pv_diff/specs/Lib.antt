@@ -1,5 +1,11 @@
 pub mod Answer
+pub mod Chains
+pub mod Classes
 pub mod Conflict
 pub mod Edges
+pub mod Forest
+pub mod Lowest
+pub mod Numbering
+pub mod Parts
 pub mod Slots
 pub mod Table

@@ -3,6 +3,7 @@ use Rattle.std.specs.Prelude.{ℕ, ℤ, ◌≡◌, ◌⊎◌, List, [], ◌∷�
 use Rattle.pv_linear.specs.declared.Literal.{Literal}
 use Rattle.pv_linear.specs.declared.Literal.TheVariants.{AtMost, Same, Differ}
 use Rattle.pv_linear.specs.declared.Symbol.{Symbol}
+use Rattle.pv_linear.specs.Sorting.{IsReferenceAmong}
 use Rattle.pv_diff.specs.Answer.{IsInDifference}
 use Rattle.pv_diff.specs.declared.table.Edge.{Edge}
 
@@ -26,3 +27,17 @@ AreEdges symbols (l ∷ ls) [] = ⊥
 -- only the symbols of differences, and 0, are in the list
 abbrev pub AreOnlyNamed : List ℕ → List Literal → Type 0
 AreOnlyNamed symbols literals = (k : ℕ) → Contains symbols k → (k ≡ 0) ⊎ IsInDifference literals k
+
+-- the symbols of a literal that is no difference
+abbrev pub references_in : Literal → List ℕ
+references_in (AtMost x y c) = []
+references_in (Same x y) = x.0 ∷ y.0 ∷ []
+references_in (Differ x y) = x.0 ∷ y.0 ∷ []
+
+-- the symbols of each such literal are in the list
+abbrev pub AreReferencesNamed : List ℕ → List Literal → Type 0
+AreReferencesNamed symbols literals = (p k : ℕ) (l : Literal) → slice_get literals p ≡ Some l → Contains (references_in l) k → Contains symbols k
+
+-- only these symbols, and 0, are in the list
+abbrev pub AreOnlyReferences : List ℕ → List Literal → Type 0
+AreOnlyReferences symbols literals = (k : ℕ) → Contains symbols k → (k ≡ 0) ⊎ IsReferenceAmong literals k

@@ -6,8 +6,8 @@ use Rattle.pv_linear.proofs.Bounds.{bound_of_bounded, bound_of_all-append}
 use Rattle.pv_linear.proofs.MeetsLemmas.{opposite_denies}
 use Rattle.pv_linear.specs.declared.Literal.{Literal}
 use Rattle.pv_linear.specs.Values.{Values, number_of}
+use Rattle.pv_linear.specs.Sorting.{IsReferenceAmong, AreSortsApart}
 use Rattle.pv_linear.specs.Literal.{Holds, Meets, opposite, IsBounded, bound_of_all}
-use Rattle.pv_diff.specs.Answer.{AllAtMost}
 use Rattle.small_paths.specs.declared.Difference.{Difference}
 use Rattle.small_paths.specs.declared.Decision.{Decision}
 use Rattle.small_paths.specs.declared.Decision.TheVariants.{Open, Closed}
@@ -32,15 +32,27 @@ Agreed_meets v [] l h k = (k, tt)
 Agreed_meets v (Open a ∷ ds) l h k = (h.0, Agreed_meets v ds l h.1 k)
 Agreed_meets v (Closed a ∷ ds) l h k = (h.0, Agreed_meets v ds l h.1 k)
 
-pub literals_at_most : (ds : List Decision) → AllAtMost (literals_of ds)
-literals_at_most [] = tt
-literals_at_most (Open a ∷ ds) = (tt, literals_at_most ds)
-literals_at_most (Closed a ∷ ds) = (tt, literals_at_most ds)
+no_reference : (ds : List Decision) (k : ℕ) → IsReferenceAmong (literals_of ds) k → ⊥
+no_reference [] k h = h
+no_reference (Open a ∷ ds) k (inl h) = h
+no_reference (Open a ∷ ds) k (inr h) = no_reference ds k h
+no_reference (Closed a ∷ ds) k (inl h) = h
+no_reference (Closed a ∷ ds) k (inr h) = no_reference ds k h
 
-pub asked_at_most : (ds : List Decision) (q : Difference) → AllAtMost (literals_of ds ++ literal_of q ∷ [])
-asked_at_most [] q = (tt, tt)
-asked_at_most (Open a ∷ ds) q = (tt, asked_at_most ds q)
-asked_at_most (Closed a ∷ ds) q = (tt, asked_at_most ds q)
+no_reference-asked : (ds : List Decision) (q : Difference) (k : ℕ) → IsReferenceAmong (literals_of ds ++ literal_of q ∷ []) k → ⊥
+no_reference-asked [] q k (inl h) = h
+no_reference-asked [] q k (inr h) = h
+no_reference-asked (Open a ∷ ds) q k (inl h) = h
+no_reference-asked (Open a ∷ ds) q k (inr h) = no_reference-asked ds q k h
+no_reference-asked (Closed a ∷ ds) q k (inl h) = h
+no_reference-asked (Closed a ∷ ds) q k (inr h) = no_reference-asked ds q k h
+
+-- the literals of decisions are differences, so that no symbol in them is a reference
+pub literals_apart : (ds : List Decision) → AreSortsApart (literals_of ds)
+literals_apart ds k h r = no_reference ds (suc k) r
+
+pub asked_apart : (ds : List Decision) (q : Difference) → AreSortsApart (literals_of ds ++ literal_of q ∷ [])
+asked_apart ds q k h r = no_reference-asked ds q (suc k) r
 
 pub literals_within : (ds : List Decision) → bound_of_all (literals_of ds) ≤ decisions_bound ds
 literals_within [] = omega arith

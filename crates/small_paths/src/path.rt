@@ -2,8 +2,8 @@
 
 ghost use Rattle.std.specs.Prelude.{◌≡◌, ◌∷◌, [], ◌++◌, ◌≤◌, ◌<◌, ◌^◌, IfOk, IfNone, IfSome, OnOk, IsTrue, ◌↔◌, false, length, ◌⊎◌};
 ghost use Rattle.pv_linear.specs.Values.{Values, values_of};
+ghost use Rattle.pv_linear.specs.Sorting.{AreSortsApart};
 ghost use Rattle.pv_linear.specs.Literal.{IsBounded, Holds, Meets, opposite, bound_of_all};
-ghost use Rattle.pv_diff.specs.Answer.{AllAtMost};
 ghost use Rattle.small_paths.specs.Asking.{Asks, Under};
 ghost use Rattle.small_paths.specs.Parts.{On, Off, literal_in, Agrees, Stands, literal_of, literals_of, decision_bound, decisions_bound, open_side, open_sides};
 
@@ -93,7 +93,7 @@ fn literals_in(alloc: Global, decisions: &[Decision]) -> Result<Vec<Literal>, No
 
 /// Whether some values meet the literals.
 fn can_be_met(alloc: Global, literals: &[Literal]) -> Result<bool, NoMemory>
-    requires kind { AllAtMost literals.now }
+    requires sorts { AreSortsApart literals.now }
     requires few { length literals.now < 2 ^ 20 }
     requires bounds { bound_of_all literals.now ≤ 2 ^ 100 }
     ensures { IfOk result (λ told. told ≡ false → (v : Values) → Meets v literals.now → ⊥) }
@@ -106,7 +106,7 @@ fn can_be_met(alloc: Global, literals: &[Literal]) -> Result<bool, NoMemory>
 
 /// Values that meet the literals, if there are any.
 fn values_for(alloc: Global, literals: &[Literal]) -> Result<Option<Assignment>, NoMemory>
-    requires kind { AllAtMost literals.now }
+    requires sorts { AreSortsApart literals.now }
     requires few { length literals.now < 2 ^ 20 }
     requires bounds { bound_of_all literals.now ≤ 2 ^ 100 }
     ensures some { IfOk result (λ found. IfSome found (λ numbers. Meets (values_of numbers) literals.now)) }

@@ -1,9 +1,9 @@
-use Rattle.std.proofs.Common.{arith, sym, subst, ap, ◌∙◌, ◌-◌, ◌≡◌, ◌<◌, ℤ, pos, List, length, get_or, slice_index_or}
+use Rattle.std.proofs.Common.{arith, ap, ◌∙◌, ◌-◌, ◌≡◌, ◌<◌, ℤ, length, get_or}
 use Rattle.std.proofs.lemmas.Int.{ints}
 use Rattle.std.proofs.Math.ListN.{length-set}
 use Rattle.std.proofs.lemmas.Option.{slice_get_within}
 use Rattle.pv_diff.specs.Table.{number_in}
-use Rattle.pv_diff.proofs.Written.{rises_along, WrittenBelow-more, AreNear-more, AreSigned, AreSigned-more, same_slot}
+use Rattle.pv_diff.proofs.Written.{rises_along, WrittenBelow-more, AreNear-more, AreSigned-more, same_slot}
 use Rattle.pv_diff.proofs.slots.assignment_of.Goals as goal
 
 pub index_mut-requires : goal.index_mut-requires
@@ -44,8 +44,7 @@ returns-clause-numbers c = λ slot x zero g h.
     let near_z = c.requires.near z in
     let down_z = c.requires.down z in
     let written = c.loop-slot.invariant.written slot x (let a = slice_get_within s slot x g in omega (arith, a)) g in
-    let at : slice_index_or c.from_vec.result x (pos 0) ≡ slice_index_or c.loop-slot.numbers.items x (pos 0) = ap (λ (q : List ℤ). slice_index_or q x (pos 0)) c.from_vec.ensures in
-    omega (arith, ints, here, near_z, down_z, written, at)
+    omega (arith, ints, here, near_z, down_z, written)
 
 pub returns-clause-signed : goal.returns-clause-signed
-returns-clause-signed c = subst (AreSigned c.args.symbols.now) (sym c.from_vec.ensures) c.loop-slot.invariant.signed
+returns-clause-signed c = c.loop-slot.invariant.signed

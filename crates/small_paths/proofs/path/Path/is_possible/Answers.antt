@@ -1,10 +1,10 @@
 use Rattle.std.proofs.Common.{arith, length-append}
 use Rattle.small_paths.specs.Parts.{literal_of}
-use Rattle.small_paths.proofs.PartsLemmas.{Agreed_meets, asked_at_most, bound_asked, length-literals_of}
+use Rattle.small_paths.proofs.PartsLemmas.{Agreed_meets, asked_apart, bound_asked, length-literals_of}
 use Rattle.small_paths.proofs.path.Path.is_possible.Goals as goal
 
-pub can_be_met-requires-clause-kind : goal.can_be_met-requires-clause-kind
-can_be_met-requires-clause-kind c = rw (c.deref-2.ensures.value, c.in_ok-literals.ensures, c.deref.ensures.value) (asked_at_most _ _)
+pub can_be_met-requires-clause-sorts : goal.can_be_met-requires-clause-sorts
+can_be_met-requires-clause-sorts c = rw (c.deref-2.ensures.value, c.in_ok-literals.ensures, c.deref.ensures.value) (asked_apart _ _)
 
 pub can_be_met-requires-clause-few : goal.can_be_met-requires-clause-few
 can_be_met-requires-clause-few c =

@@ -1,9 +1,9 @@
 use Rattle.std.proofs.Common.{arith}
-use Rattle.small_paths.proofs.PartsLemmas.{agreed_meets, met_agrees, literals_at_most, literals_within, length-literals_of}
+use Rattle.small_paths.proofs.PartsLemmas.{agreed_meets, met_agrees, literals_apart, literals_within, length-literals_of}
 use Rattle.small_paths.proofs.path.Path.witness.Goals as goal
 
-pub values_for-requires-clause-kind : goal.values_for-requires-clause-kind
-values_for-requires-clause-kind c = rw (c.deref-2.ensures.value, c.in_ok-literals.ensures, c.deref.ensures.value) (literals_at_most _)
+pub values_for-requires-clause-sorts : goal.values_for-requires-clause-sorts
+values_for-requires-clause-sorts c = rw (c.deref-2.ensures.value, c.in_ok-literals.ensures, c.deref.ensures.value) (literals_apart _)
 
 pub values_for-requires-clause-few : goal.values_for-requires-clause-few
 values_for-requires-clause-few c =
