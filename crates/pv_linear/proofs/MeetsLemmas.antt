@@ -1,11 +1,12 @@
 -- Literals on a path.
-use Rattle.std.proofs.Common.{◌≡◌, ◌≢◌, ℕ, ℤ, zero, suc, ◌+ℤ◌, List, [], ◌∷◌, ◌++◌, Some, subst, arith, ◌⊎◌, inl, inr}
+use Rattle.std.proofs.Common.{◌≡◌, ◌≢◌, ℕ, ℤ, zero, suc, ◌+ℤ◌, List, [], ◌∷◌, ◌++◌, Some, Bool, true, false, IsTrue, ◌↔◌, subst, arith, rules, ◌⊎◌, inl, inr}
 use Rattle.std.specs.Prelude.{slice_get}
 use Rattle.std.proofs.lemmas.Int.{ints, by_lt_z}
 use Rattle.pv_linear.specs.declared.Literal.{Literal}
 use Rattle.pv_linear.specs.declared.Literal.TheVariants.{AtMost, Same, Differ}
 use Rattle.pv_linear.specs.Values.{Values, number_of}
 use Rattle.pv_linear.specs.Literal.{Holds, Meets, opposite}
+use Rattle.pv_linear.specs.Evidence.{Evidence, Follows, answered}
 
 pub Meets-left : (v : Values) (xs ys : List Literal) → Meets v (xs ++ ys) → Meets v xs
 Meets-left v [] ys h = tt
@@ -39,3 +40,18 @@ pub Meets-get : (v : Values) (ls : List Literal) (p : ℕ) (l : Literal) → Mee
 Meets-get v [] p l h e = cc
 Meets-get v (a ∷ ls) zero l h e = let k : a ≡ l = cc in subst (Holds v) k h.0
 Meets-get v (a ∷ ls) (suc p) l h e = Meets-get v ls p l h.1 e
+
+-- an answer says whether the literal holds
+pub answered_says : (v : Values) (l : Literal) (told : Bool) → Holds v (answered l told) → IsTrue told ↔ Holds v l
+answered_says v l true h = (λ _. h, λ _. search rules)
+answered_says v l false h = (λ t. search rules, λ k. absurd (opposite_denies v l h k))
+
+-- a question narrows the evidence
+pub Follows-front : (e : Evidence) (ls ms : List Literal) (ts : List ℕ) → Follows (ls ++ ms) ts e → Follows ls ts e
+unfolding Follows
+Follows-front e ls ms ts h = (Meets-left e.values ls ms h.0, h.1)
+
+-- an answer says under the path whether the literal holds
+pub Follows-says : (e : Evidence) (ls : List Literal) (l : Literal) (told : Bool) (ts : List ℕ) → Follows (ls ++ answered l told ∷ []) ts e → IsTrue told ↔ Holds e.values l
+unfolding Follows
+Follows-says e ls l told ts h = answered_says e.values l told (Meets-right e.values ls (answered l told ∷ []) h.0).0

@@ -1,16 +1,23 @@
-//! Terms and literals over symbols: what the questions of a symbolic run are made of.
+//! Terms and literals over symbols, what the questions of a symbolic run are made of, and who answers them.
 //!
-//! `at_most` and `Literal::opposite` take constant time and `holds` too; none of them takes memory.
+//! `at_most` and `Literal::opposite` take constant time and `holds` too; none of them takes memory. What a question costs is its
+//! asker's affair: `question` and its kin ask once, or not at all where both terms have one symbol.
 #![tactic(auto)]
 
 ghost use Rattle.std.specs.Prelude.{◌≡◌, ℕ, pos, ◌+ℤ◌, ◌≤ℤ◌, ◌↔◌, IsTrue, ◌^◌, ◌*◌, All};
 ghost use Rattle.pv_linear.specs.Values.{Values, term_value, number_of, IsWithin, values_of};
 ghost use Rattle.pv_linear.specs.Literal.{Holds, opposite, IsBounded, ShapeHolds, IsShapeBounded, is_ground};
 
+mod asker;
+mod asking;
+mod terms;
 #[cfg(test)]
 mod tests;
 
+pub use asker::{Added, AskFault, Asker};
+pub use asking::{ask_at_most, ask_same, make_symbol, question, take_turn};
 use sqlite_items::Items;
+pub use terms::{MapId, TermPair, TermPairs, Terms};
 
 /// What a symbol stands for.
 #[derive(Clone, Copy, PartialEq, Eq, Debug, Drop)]
@@ -21,7 +28,7 @@ pub enum Sort {
 }
 
 /// A symbol: a number that is not known. Symbol 0 is the number zero and the null reference.
-#[derive(Clone, Copy, PartialEq, Eq, Debug, Drop)]
+#[derive(Clone, Copy, PartialEq, Eq, Debug, Default, Drop)]
 pub struct Symbol(pub u32);
 
 impl Symbol {
@@ -29,8 +36,8 @@ impl Symbol {
     pub const ZERO: Symbol = Symbol(0);
 }
 
-/// A symbol plus a number.
-#[derive(Clone, Copy, PartialEq, Eq, Debug, Drop)]
+/// A symbol plus a number. The default is zero.
+#[derive(Clone, Copy, PartialEq, Eq, Debug, Default, Drop)]
 pub struct Term {
     pub symbol: Symbol,
     pub plus: i128,

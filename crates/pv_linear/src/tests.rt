@@ -1,6 +1,6 @@
 //! Each call once.
 
-use crate::{Literal, Shape, Symbol, Term, at_most, holds};
+use crate::{Literal, Shape, Symbol, Term, Terms, at_most, holds};
 use sqlite_items::Items;
 use std::test::Fail;
 
@@ -31,5 +31,17 @@ fn literals_hold_of_numbers(rt: HostRuntime) -> Result<(), Fail> {
     assert!(rt; !holds(&Literal::AtMost(Symbol(1), Symbol(0), 4), &values));
     assert!(rt; holds(&Literal::Same(Symbol(0), Symbol(9)), &values));
     assert!(rt; holds(&Literal::Differ(Symbol(1), Symbol(9)), &values));
+    Ok(())
+}
+
+#[test]
+fn terms_stand_in_order(rt: HostRuntime) -> Result<(), Fail> {
+    let mut terms = Terms::new(rt.alloc());
+    for plus in 0..6u8 {
+        terms.push(Term::constant(i128::from(plus)))?;
+    }
+    assert_eq!(rt; terms.len(), 6);
+    assert_eq!(rt; terms.get(5).copied(), Some(Term::constant(5)));
+    assert_eq!(rt; terms.get(6).copied(), None);
     Ok(())
 }

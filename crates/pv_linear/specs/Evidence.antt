@@ -1,0 +1,82 @@
+-- Evidence, and what a path of literals says of it.
+use Rattle.std.specs.Prelude.{ℕ, suc, ◌<◌, ◌≤◌, ◌≡◌, ◌≢◌, ◌⊎◌, List, [], ◌∷◌, ◌++◌, length, slice_index, Bool, if◌then◌else◌}
+use Rattle.pv_linear.specs.declared.Sort.{Sort}
+use Rattle.pv_linear.specs.declared.Sort.TheVariants.{Reference}
+use Rattle.pv_linear.specs.declared.Literal.{Literal}
+use Rattle.pv_linear.specs.declared.Literal.TheVariants.{AtMost, Same, Differ}
+use Rattle.pv_linear.specs.declared.asker.AskFault.{AskFault}
+use Rattle.pv_linear.specs.declared.asker.AskFault.TheVariants.{Full, NoMemory}
+use Rattle.pv_linear.specs.Values.{Values}
+use Rattle.pv_linear.specs.Literal.{Meets, opposite}
+use Rattle.pv_linear.specs.Sorting.{AreSortsApart}
+
+-- a number for each symbol, and a number for each turn
+pub record Evidence : Type 0 where
+  pub values : Values
+  pub turns : ℕ → ℕ
+
+-- numbers that meet the literals
+pub record Solution (literals : List Literal) : Type 0 where
+  pub values : Values
+  pub meets : Meets values literals
+
+-- there are such numbers
+abbrev pub CanBeMet : List Literal → Type 0
+CanBeMet literals = ∥ Solution literals ∥₁
+
+-- the values meet the path, and the turns taken are the first of the turns
+unfoldable pub Follows : List Literal → List ℕ → Evidence → Type 0
+Follows path turns e = Meets e.values path × ((k : ℕ) → k < length turns → slice_index turns k ≡ e.turns k)
+
+-- P is true of all evidence that follows the asker
+abbrev pub Under : {S : Type 0} → (S → List Literal) → (S → List ℕ) → S → (Evidence → Type 0) → Type 0
+Under path turns asker P = (e : Evidence) → Follows (path asker) (turns asker) e → P e
+
+-- the literal as it was answered
+abbrev pub answered : Literal → Bool → Literal
+answered literal told = if told then literal else opposite literal
+
+-- n of the literals are such that the opposite of each can be met together with all that stand before it
+abbrev pub Undecided : List Literal → List Literal → ℕ → Type 0
+Undecided before [] n = n ≡ 0
+Undecided before (l ∷ ls) n = Undecided (before ++ l ∷ []) ls n ⊎ ((m : ℕ) × (n ≡ suc m) × CanBeMet (before ++ opposite l ∷ []) × Undecided (before ++ l ∷ []) ls m)
+
+-- the path can be met, and so many of its literals are such that a question may find no place on it
+unfoldable pub IsLong : List Literal → Type 0
+IsLong path = CanBeMet path × ∥ Undecided [] path 65536 ∥₁
+
+-- the path can be met, and as many symbols stand on it as there are
+unfoldable pub HasAllSymbols : List Literal → ℕ → Type 0
+HasAllSymbols path symbols = CanBeMet path × (4294967294 ≤ symbols)
+
+-- the asker may answer Full
+unfoldable pub MayBeFull : List Literal → ℕ → Type 0
+MayBeFull path symbols = IsLong path ⊎ HasAllSymbols path symbols
+
+-- P, where the fault is Full
+abbrev pub OnFull : AskFault → Type 0 → Type 0
+OnFull Full P = P
+OnFull NoMemory P = Unit {0}
+
+-- the literal may be asked on the path: where the path can be met, no symbol but 0 is both a number and a reference in the
+-- path with the literal
+unfoldable pub MayAsk : List Literal → Literal → Type 0
+MayAsk path literal = CanBeMet path → AreSortsApart (path ++ literal ∷ [])
+
+-- the symbol with this number is 0 or no reference; it is 0 or a reference
+abbrev pub IsNumber : (ℕ → Sort) → ℕ → Type 0
+IsNumber sorts k = k ≢ 0 → sorts k ≢ Reference
+
+abbrev pub IsReference : (ℕ → Sort) → ℕ → Type 0
+IsReference sorts k = k ≢ 0 → sorts k ≡ Reference
+
+-- the symbols stand in the literal as their sorts say
+abbrev pub IsOfSorts : (ℕ → Sort) → Literal → Type 0
+IsOfSorts sorts (AtMost x y c) = IsNumber sorts x.0 × IsNumber sorts y.0
+IsOfSorts sorts (Same x y) = IsReference sorts x.0 × IsReference sorts y.0
+IsOfSorts sorts (Differ x y) = IsReference sorts x.0 × IsReference sorts y.0
+
+-- so in all literals
+unfoldable pub AreOfSorts : (ℕ → Sort) → List Literal → Type 0
+AreOfSorts sorts [] = Unit {0}
+AreOfSorts sorts (l ∷ ls) = IsOfSorts sorts l × AreOfSorts sorts ls

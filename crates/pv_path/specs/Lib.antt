@@ -1,0 +1,4 @@
+pub mod Branches
+pub mod Paths
+pub mod Standing
+pub mod Taking

@@ -1,0 +1,311 @@
+//! The path and its open sides, as the one who answers.
+
+ghost use Rattle.std.specs.Prelude.{◌≡◌, ◌≢◌, ◌∷◌, [], ◌++◌, ◌≤◌, ◌<◌, ◌+◌, ◌^◌, ◌↔◌, length, take, IfOk, IfErr, IfSome, OnOk, OnErr, true, false};
+ghost use Rattle.pv_linear.specs.declared.asker.AskFault.TheVariants.{NoMemory as NoMemoryFault};
+ghost use Rattle.pv_linear.specs.Values.{Values};
+ghost use Rattle.pv_linear.specs.Literal.{IsBounded, Holds, Meets, opposite};
+ghost use Rattle.pv_linear.specs.Sorting.{AreSortsApart};
+ghost use Rattle.pv_linear.specs.Evidence.{Evidence, CanBeMet, MayAsk, IsLong, HasAllSymbols, OnFull, answered};
+ghost use Rattle.pv_linear.specs.Decisions.{Agrees, Decides, DecidesTurn, literals_in};
+ghost use Rattle.pv_path.specs.declared.branch.Branch.TheVariants.{Open as OpenBranch};
+ghost use Rattle.pv_path.specs.declared.path.Next.TheVariants.{More as MoreNext, Done as DoneNext, Splits as SplitsNext};
+ghost use Rattle.pv_path.specs.Branches.{branch_turns, IsTurnedOver};
+ghost use Rattle.pv_path.specs.Standing.{Narrowed, HasTurns, Stands, AreUndecided, IsOpen, IsSettled};
+
+use crate::branch::{next_side, turn_at};
+use crate::choices::Choices;
+use crate::literals::{Settled, can_be_added, has_free_symbol, has_new_symbol, known};
+use pv_base::NoMemory;
+use pv_linear::{AskFault, Asker, Literal, Sort, Symbol};
+use std::alloc::Global;
+
+/// So many literals that were undecided may stand on one path.
+const MOST_LITERALS: usize = 65536;
+
+/// So many paths may end.
+const MOST_PATHS: u32 = 65536;
+
+/// So many symbols may stand on one path.
+const MOST_SYMBOLS: u32 = 4294967294;
+
+/// A path through the cases of a run, and the sides that are still to be walked: the decisions with what is open of them; the
+/// literals asked on this path, `kept` of those among the decisions stand before them; how many turns were taken and symbols
+/// made on it, and how many paths have ended.
+#[derive(Drop)]
+pub struct Path {
+    alloc: Global,
+    pub choices: Choices,
+    pub asked: Vec<Literal>,
+    pub kept: usize,
+    pub taken: usize,
+    pub symbols: u32,
+    pub ended: u32,
+    ghost within: { kept ≤ length choices.literals.items },
+    ghost narrowed: { ∥ Narrowed (take kept choices.literals.items ++ asked.items) choices.literals.items ∥₁ },
+    ghost fits: { taken ≤ length (branch_turns choices.branches.items) },
+    ghost few: { ended < 65536 },
+    ghost numbered: { symbols ≤ 4294967294 },
+}
+
+/// How the search goes on.
+#[derive(Clone, Copy, PartialEq, Eq, Debug, Drop)]
+pub enum Next {
+    /// Another path is to be walked.
+    More,
+    /// No side is open.
+    Done,
+    /// So many paths have ended that no other is walked.
+    Splits,
+}
+
+impl Path {
+    ghost use Rattle.pv_path.specs.Paths.{path_of, turns_of, decisions, open_sides};
+
+    /// Nothing is asked, nothing is decided, no side is open, and everything stands on the path. It takes no memory.
+    pub fn new(alloc: Global) -> Path
+        ensures decisions { decisions result ≡ [] }
+        ensures open_sides { open_sides result ≡ [] }
+        ensures path { path_of result ≡ [] }
+        ensures turns { turns_of result ≡ [] }
+        ensures symbols { result.symbols ≡ 0 }
+        ensures ended { result.ended ≡ 0 }
+        ensures stands { (e : Evidence) → HasTurns e → Stands e result.choices.branches.items }
+    {
+        Path {
+            alloc,
+            choices: Choices::new(alloc),
+            asked: Vec::new(alloc),
+            kept: 0,
+            taken: 0,
+            symbols: 0,
+            ended: 0,
+        }
+    }
+
+    /// The path's literals that were undecided when they were asked, in order: of each, the opposite can be met together with
+    /// those before it. The same values meet them and the path. It takes no memory.
+    pub fn literals(&self) -> &[Literal]
+        ensures value { result.now ≡ literals_in (decisions self.now) }
+        ensures same { (v : Values) → Meets v result.now ↔ Meets v (path_of self.now) }
+        ensures undecided { AreUndecided result.now }
+        ensures few { length result.now ≤ 65536 }
+    {
+        &self.choices.literals
+    }
+
+    /// Whether the literal follows from the path, or its opposite, or neither. One that stands on the path, or whose opposite
+    /// does, and one with a symbol that no undecided literal has are told without the solver.
+    fn settle(&self, literal: Literal) -> Result<Settled, NoMemory>
+        requires bound { IsBounded (2 ^ 100) literal }
+        requires opposite { IsBounded (2 ^ 100) (opposite literal) }
+        requires sorts { MayAsk (path_of self.now) literal }
+        ensures { IfOk result (λ settled. IsSettled (path_of self.now) literal settled) }
+    {
+        if has_new_symbol(literal, self.choices.highest) {
+            return Ok(Settled::Undecided);
+        }
+        if let Some(told) = self.known(literal) {
+            return Ok(Settled::Told(told));
+        }
+        if has_free_symbol(&self.choices.literals, literal) {
+            return Ok(Settled::Undecided);
+        }
+        if !self.is_possible(literal)? {
+            return Ok(Settled::Told(false));
+        }
+        if !self.is_possible(literal.opposite())? {
+            return Ok(Settled::Told(true));
+        }
+        Ok(Settled::Undecided)
+    }
+
+    /// Whether the literal can be met together with the path.
+    fn is_possible(&self, literal: Literal) -> Result<bool, NoMemory>
+        requires bound { IsBounded (2 ^ 100) literal }
+        requires sorts { AreSortsApart (self.now.choices.literals.items ++ literal ∷ []) }
+        ensures no { IfOk result (λ told. told ≡ false → (v : Values) → Meets v (path_of self.now) → Holds v literal → ⊥) }
+        ensures yes { IfOk result (λ told. told ≡ true → CanBeMet (path_of self.now ++ literal ∷ [])) }
+    {
+        let told = can_be_added(self.alloc, &self.choices.literals, literal)?;
+        Ok(told)
+    }
+
+    /// The answer that the path has itself.
+    fn known(&self, literal: Literal) -> Option<bool>
+        requires { IsBounded (2 ^ 126) literal }
+        ensures { IfSome result (λ told. (v : Values) → Meets v (path_of self.now) → Holds v (answered literal told)) }
+    {
+        match known(&self.choices.literals[..self.kept], literal) {
+            Some(told) => Some(told),
+            None => known(&self.asked, literal),
+        }
+    }
+
+    /// One more literal that follows from the path. After a refusal all is as before.
+    fn follow(&mut self, literal: Literal) -> Result<(), NoMemory>
+        requires { (v : Values) → Meets v (path_of self.old) → Holds v literal }
+        ensures path { OnOk result (path_of self.new ≡ path_of self.old ++ literal ∷ []) }
+        ensures same_path { OnErr result (path_of self.new ≡ path_of self.old) }
+        ensures choices { self.new.choices ≡ self.old.choices }
+        ensures taken { self.new.taken ≡ self.old.taken }
+        ensures symbols { self.new.symbols ≡ self.old.symbols }
+        ensures ended { self.new.ended ≡ self.old.ended }
+    {
+        self.asked.push(literal)?;
+        Ok(())
+    }
+
+    /// One more literal that was undecided. After a refusal all is as before.
+    fn decide(&mut self, literal: Literal) -> Result<(), NoMemory>
+        requires bound { IsBounded (2 ^ 100) literal }
+        requires opposite { IsBounded (2 ^ 100) (opposite literal) }
+        requires room { length self.old.choices.literals.items < 65536 }
+        requires open { IsOpen (path_of self.old) literal }
+        ensures path { OnOk result (path_of self.new ≡ path_of self.old ++ literal ∷ []) }
+        ensures same_path { OnErr result (path_of self.new ≡ path_of self.old) }
+        ensures branches { OnOk result (self.new.choices.branches.items ≡ self.old.choices.branches.items ++ OpenBranch literal ∷ []) }
+        ensures same_branches { OnErr result (self.new.choices.branches.items ≡ self.old.choices.branches.items) }
+        ensures taken { self.new.taken ≡ self.old.taken }
+        ensures symbols { self.new.symbols ≡ self.old.symbols }
+        ensures ended { self.new.ended ≡ self.old.ended }
+    {
+        self.asked.reserve(1)?;
+        self.choices.decide(literal)?;
+        match self.asked.push(literal) {
+            Ok(()) => Ok(()),
+            Err(_) => unreachable!(),
+        }
+    }
+
+    /// Ends the path and goes to the next one. `More`: the last decision that had an open side is turned over, those before it
+    /// stay, and the literals among them are on the path; no turn counts as taken, and symbols are numbered from 1 again.
+    /// `Done`: no side is open. `Splits`: another is, but with this path 65,536 have ended. Where the answer is not `More`, all
+    /// is as before. It takes no memory; `More` costs a look along the decisions.
+    pub fn next_path(&mut self) -> Next
+        ensures over { result ≡ MoreNext → IsTurnedOver self.old.choices.branches.items self.new.choices.branches.items }
+        ensures parts { result ≡ MoreNext → open_sides self.old ≡ open_sides self.new ++ decisions self.new ∷ [] }
+        ensures stands { result ≡ MoreNext → (e : Evidence) → Stands e self.new.choices.branches.items ↔ (Stands e self.old.choices.branches.items × (Agrees e (decisions self.old) → ⊥)) }
+        ensures path { result ≡ MoreNext → path_of self.new ≡ literals_in (decisions self.new) }
+        ensures turns { result ≡ MoreNext → turns_of self.new ≡ [] }
+        ensures symbols { result ≡ MoreNext → self.new.symbols ≡ 0 }
+        ensures ended { result ≡ MoreNext → self.new.ended ≡ self.old.ended + 1 }
+        ensures done { result ≡ DoneNext → open_sides self.old ≡ [] }
+        ensures splits { result ≡ SplitsNext → open_sides self.old ≢ [] }
+        ensures last { result ≡ SplitsNext → self.old.ended + 1 ≡ 65536 }
+        ensures same { result ≢ MoreNext → self.new ≡ self.old }
+    {
+        let Some(side) = next_side(&self.choices.branches) else {
+            return Next::Done;
+        };
+        if self.ended + 1 == MOST_PATHS {
+            return Next::Splits;
+        }
+        self.choices.turn_over(side);
+        self.asked.clear();
+        self.kept = self.choices.literals.len();
+        self.taken = 0;
+        self.symbols = 0;
+        self.ended += 1;
+        Next::More
+    }
+}
+
+impl Asker for Path {
+    ghost use Rattle.pv_path.specs.Paths.{path_of, turns_of, decisions};
+    ghost use Rattle.pv_path.specs.Taking.{takes_first};
+
+    ghost path = { λ p. path_of p };
+
+    ghost turns = { λ p. turns_of p };
+
+    ghost decisions = { λ p. decisions p };
+
+    ghost stands = { λ p e. Stands e p.choices.branches.items };
+
+    ghost symbols = { λ p. p.symbols };
+
+    /// As the trait says. `Full` comes exactly where the path has 65,536 literals that were undecided when they were asked, and
+    /// this one is undecided too. A literal that is undecided is answered by true.
+    fn ask(&mut self, literal: Literal) -> Result<bool, AskFault>
+        requires bound { IsBounded (2 ^ 100) literal }
+        requires opposite { IsBounded (2 ^ 100) (opposite literal) }
+        requires sorts { MayAsk (path_of self.old) literal }
+        ensures path { IfOk result (λ told. path_of self.new ≡ path_of self.old ++ answered literal told ∷ []) }
+        ensures decides { IfOk result (λ told. Decides (path_of self.old) (decisions self.old) (decisions self.new) (answered literal told)) }
+        ensures turns { turns_of self.new ≡ turns_of self.old }
+        ensures symbols { self.new.symbols ≡ self.old.symbols }
+        ensures keeps { (e : Evidence) → Stands e self.old.choices.branches.items → Stands e self.new.choices.branches.items }
+        ensures same_path { OnErr result (path_of self.new ≡ path_of self.old) }
+        ensures same_decisions { OnErr result (decisions self.new ≡ decisions self.old) }
+        ensures full { IfErr result (λ fault. OnFull fault (IsLong (path_of self.old))) }
+        ensures adds { (e : Evidence) → Stands e self.new.choices.branches.items → Stands e self.old.choices.branches.items }
+        ensures full_literals { IfErr result (λ fault. OnFull fault (length (literals_in (decisions self.old)) ≡ 65536)) }
+        ensures full_open { IfErr result (λ fault. OnFull fault (IsOpen (path_of self.old) literal)) }
+        ensures not_full { OnOk result (IsLong (path_of self.old) → IsOpen (path_of self.old) literal → ⊥) }
+        ensures ended { self.new.ended ≡ self.old.ended }
+    {
+        match self.settle(literal)? {
+            Settled::Told(true) => {
+                self.follow(literal)?;
+                Ok(true)
+            }
+            Settled::Told(false) => {
+                self.follow(literal.opposite())?;
+                Ok(false)
+            }
+            Settled::Undecided => {
+                if self.choices.literals.len() == MOST_LITERALS {
+                    return Err(AskFault::Full);
+                }
+                self.decide(literal)?;
+                Ok(true)
+            }
+        }
+    }
+
+    /// As the trait says: the kept turns first, and then 0.
+    fn turn(&mut self) -> Result<u32, AskFault>
+        ensures below { IfOk result (λ n. n < 3) }
+        ensures turns { IfOk result (λ n. turns_of self.new ≡ turns_of self.old ++ n ∷ []) }
+        ensures decides { IfOk result (λ n. DecidesTurn (turns_of self.old) (decisions self.old) (decisions self.new) n) }
+        ensures path { path_of self.new ≡ path_of self.old }
+        ensures symbols { self.new.symbols ≡ self.old.symbols }
+        ensures keeps { (e : Evidence) → Stands e self.old.choices.branches.items → Stands e self.new.choices.branches.items }
+        ensures same_turns { OnErr result (turns_of self.new ≡ turns_of self.old) }
+        ensures same_decisions { OnErr result (decisions self.new ≡ decisions self.old) }
+        ensures fault { IfErr result (λ fault. fault ≡ NoMemoryFault) }
+        ensures adds { (e : Evidence) → Stands e self.new.choices.branches.items → Stands e self.old.choices.branches.items }
+        ensures ended { self.new.ended ≡ self.old.ended }
+    {
+        if let Some(turn) = turn_at(&self.choices.branches, self.taken) {
+            self.taken += 1;
+            return Ok(turn.number());
+        }
+        self.choices.take_first()?;
+        self.taken += 1;
+        Ok(0)
+    }
+
+    /// As the trait says. `Full` comes exactly where 4,294,967,294 symbols stand.
+    fn fresh(&mut self, _sort: Sort) -> Result<Symbol, AskFault>
+        ensures symbol { IfOk result (λ symbol. symbol.0 ≡ self.old.symbols + 1) }
+        ensures symbols { OnOk result (self.new.symbols ≡ self.old.symbols + 1) }
+        ensures path { path_of self.new ≡ path_of self.old }
+        ensures turns { turns_of self.new ≡ turns_of self.old }
+        ensures decisions { decisions self.new ≡ decisions self.old }
+        ensures keeps { (e : Evidence) → Stands e self.old.choices.branches.items → Stands e self.new.choices.branches.items }
+        ensures same_symbols { OnErr result (self.new.symbols ≡ self.old.symbols) }
+        ensures full { IfErr result (λ fault. OnFull fault (HasAllSymbols (path_of self.old) self.old.symbols)) }
+        ensures all { OnErr result (self.old.symbols ≡ 4294967294) }
+        ensures same { self.new.choices ≡ self.old.choices }
+        ensures ended { self.new.ended ≡ self.old.ended }
+    {
+        if self.symbols == MOST_SYMBOLS {
+            return Err(AskFault::Full);
+        }
+        self.symbols += 1;
+        Ok(Symbol(self.symbols))
+    }
+
+    ghost takes_first = { λ p. takes_first p.choices.branches.items p.taken };
+}
