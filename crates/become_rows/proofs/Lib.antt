@@ -1,0 +1,5 @@
+mod Nodes
+mod Rules
+mod Objects
+mod Arrays
+mod Threads

@@ -1,0 +1,9 @@
+pub mod Work
+pub mod Modes
+pub mod Growth
+pub mod Leads
+pub mod Ordered
+pub mod Standing
+pub mod Stands
+pub mod HeapSteps
+pub mod Typed

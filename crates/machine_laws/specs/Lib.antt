@@ -1,0 +1,6 @@
+pub mod Rest
+pub mod Shapes
+pub mod Growth
+pub mod Standing
+pub mod HeapSteps
+pub mod Typed

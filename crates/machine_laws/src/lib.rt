@@ -1,0 +1,87 @@
+//! Laws of the machine that stand by themselves: each is a function that proves its clause and answers nothing.
+#![tactic(auto)]
+
+ghost use Rattle.std.specs.Prelude.{◌≡◌, ◌≤◌, ℕ, false, true, List, Option, IsSome};
+ghost use Rattle.pv_base.specs.declared.Name.{Name};
+ghost use Rattle.pv_values.specs.Heaps.{Things};
+ghost use Rattle.pv_values.specs.Typing.{Kind, IsWellTyped};
+ghost use Rattle.pv_meaning.specs.Core.{Program};
+ghost use Rattle.pv_meaning.specs.Heaps.{heap_of};
+ghost use Rattle.pv_meaning.specs.Starts.{field_kind};
+ghost use Rattle.pv_meaning.specs.Frames.{Frame, after_work, settled};
+ghost use Rattle.pv_meaning.specs.Tasks.{size_of_tasks};
+ghost use Rattle.pv_meaning.specs.Worlds.{Mode, Ordered, World, has_ended, next};
+ghost use Rattle.pv_meaning.specs.Steps.{Result, act};
+ghost use Rattle.pv_meaning.specs.Safety.{Event, IsReached, may_step, happens, run_events};
+ghost use Rattle.pv_meaning.specs.LoopRuns.{StandsAtLoop, IsLoopRun};
+ghost use Rattle.machine_laws.specs.Growth.{Grows};
+ghost use Rattle.machine_laws.specs.Rest.{is_at_rest};
+ghost use Rattle.machine_laws.specs.Shapes.{AreAlike};
+ghost use Rattle.machine_laws.specs.Standing.{AreStanding};
+ghost use Rattle.machine_laws.specs.HeapSteps.{IsHeapStep};
+ghost use Rattle.pv_values.specs.declared.value.Value.{Value};
+ghost use Rattle.machine_laws.specs.Typed.{HasKindOf, IsTypedHeap, KeepsKinds};
+
+/// Local work goes on up to a step, a call that isn't over, or the end of the body.
+pub fn work_ends_at_a_step()
+    ensures { (f : Frame) → is_at_rest (settled f) ≡ true }
+{}
+
+/// More pieces of work than the tasks are large make no difference.
+pub fn more_work_changes_nothing()
+    ensures { (n : ℕ) (f : Frame) → size_of_tasks f.tasks ≤ n → after_work n f ≡ settled f }
+{}
+
+/// The mode of an event says into which world it leads, and nothing of whether the thread goes, waits or is wrong.
+pub fn modes_are_alike()
+    ensures { (p : Program) (w : World) (m n : Mode) (i : ℕ) → AreAlike (act p w m i) (act p w n i) }
+{}
+
+/// An event of a thread that waits or has ended leaves the world as it is.
+pub fn who_waits_changes_nothing()
+    ensures { (p : Program) (w : World) (event : Event) → may_step p w event.thread ≡ false → happens p event w ≡ w }
+{}
+
+/// Events take back no thread and its role, no block but its messages, no object and its class, no array and its length.
+pub fn events_take_nothing_back()
+    ensures { (p : Program) (events : List Event) (w : World) → Grows w (run_events p events w) }
+{}
+
+/// The ordered run of a loop is one: where two of them end, they end in one world.
+pub fn the_ordered_run_is_one()
+    ensures { (p : Program) (w : World) (i : ℕ) (one other : World) → StandsAtLoop w i → IsLoopRun p w i Ordered one → IsLoopRun p w i Ordered other → one ≡ other }
+{}
+
+/// In a reached world the innermost frame of each thread has no local work left, and each other frame waits for the one above it.
+pub fn reached_threads_stand()
+    ensures { (p : Program) (w : World) → IsReached p w → AreStanding w }
+{}
+
+/// In a reached world a thread that hasn't ended has a next label.
+pub fn who_has_not_ended_has_a_label()
+    ensures { (p : Program) (w : World) → IsReached p w → (j : ℕ) → has_ended w j ≡ false → IsSome (next (w.threads j)) }
+{}
+
+/// A step that goes changes the heap as its label says, and a write finds a value where it writes.
+pub fn labels_say_what_becomes_of_the_heap()
+    ensures { (p : Program) (w v : World) (mode : Mode) (i : ℕ) → act p w mode i ≡ Result.Went v → IsHeapStep p (next (w.threads i)) w.heap v.heap }
+{}
+
+/// A list of objects and arrays is well typed exactly if the heap that it stands for is.
+pub fn lists_are_typed_as_their_heaps()
+    ensures { (kinds : Name → Name → Option Kind) (things : Things)
+        → (IsWellTyped kinds things → IsTypedHeap kinds (heap_of things)) × (IsTypedHeap kinds (heap_of things) → IsWellTyped kinds things) }
+{}
+
+/// A step keeps the heap well typed, where what it writes has the kind of its location and a new array is one of whole numbers or of truth
+/// values.
+pub fn steps_keep_heaps_well_typed()
+    ensures { (p : Program) (w v : World) (mode : Mode) (i : ℕ) → IsTypedHeap (field_kind p) w.heap → KeepsKinds (field_kind p) w.heap (next (w.threads i))
+        → act p w mode i ≡ Result.Went v → IsTypedHeap (field_kind p) v.heap }
+{}
+
+/// A value keeps its kind over a step that keeps to the kinds.
+pub fn steps_keep_kinds()
+    ensures { (p : Program) (w v : World) (mode : Mode) (i : ℕ) → IsTypedHeap (field_kind p) w.heap → KeepsKinds (field_kind p) w.heap (next (w.threads i))
+        → act p w mode i ≡ Result.Went v → (kind : Option Kind) (value : Value) → HasKindOf w.heap kind value → HasKindOf v.heap kind value }
+{}

@@ -1,0 +1,4 @@
+pub mod OneField
+pub mod TwoWriters
+pub mod Copying
+pub mod Overwriting

@@ -1,0 +1,10 @@
+pub mod Building
+pub mod Schedules
+pub mod TwoWriters
+pub mod Filling
+pub mod Copying
+pub mod Locking
+pub mod Growing
+pub mod Faults
+pub mod Swapping
+pub mod Overwriting

@@ -1,0 +1,128 @@
+-- The judge: the run of one unit on given evidence. Its picks are taken in order, its operations from the table; a fact that is known must be
+-- true at each position.
+use Rattle.std.specs.Prelude.{◌≡◌, ℕ, zero, suc, ℤ, pos, ◌+ℤ◌, Bool, true, false, ◌&&◌, nat_lt, int_le, if◌then◌else◌, Option, Some, None, List, [], ◌∷◌}
+use Rattle.pv_base.specs.declared.Span.{Span}
+use Rattle.pv_ast.specs.declared.Operator.{Operator}
+use Rattle.pv_ast.specs.declared.Operator.TheVariants as operator
+use Rattle.pv_values.specs.Heaps.{same_number}
+use Rattle.pv_meaning.specs.declared.check.Check.{Check}
+use Rattle.pv_meaning.specs.declared.evidence.Pick.{Pick}
+use Rattle.pv_meaning.specs.declared.evidence.Pick.TheVariants.{Number, Turn, Steps}
+use Rattle.pv_meaning.specs.declared.evidence.StepPair.{StepPair}
+use Rattle.pv_meaning.specs.declared.evidence.Entry.{Entry}
+use Rattle.pv_meaning.specs.declared.evidence.Evidence.{Evidence}
+use Rattle.pv_meaning.specs.declared.unit.PvUnit.{PvUnit}
+use Rattle.pv_meaning.specs.Core.{Operation, Plus, Minus, Times, Program}
+use Rattle.pv_meaning.specs.Values.{arithmetic, width}
+use Rattle.pv_meaning.specs.Settings.{Setting, Known, Tested}
+use Rattle.pv_meaning.specs.Units.{task_of, judge_task, enter_task}
+
+-- how a run ends
+pub data End : Type 0 where
+  Finished : End
+  Blocked : End
+  Failed : Check → Span → End
+
+-- Tables
+
+abbrev pub is_operator : Operation → Operator → Bool
+is_operator Plus operator.Add = true
+is_operator Minus operator.Sub = true
+is_operator Times operator.Mul = true
+is_operator _ _ = false
+
+-- the entry of an operation: the lesser argument of `+` and `*` comes first
+abbrev pub is_entry_of : Operation → ℤ → ℤ → Entry → Bool
+is_entry_of operation a b e = is_operator operation e.op && (same_number a e.left && same_number b e.right)
+
+abbrev pub taken_from : List Entry → Operation → ℤ → ℤ → ℤ
+taken_from [] operation a b = arithmetic operation a b
+taken_from (e ∷ es) operation a b = if is_entry_of operation a b e then e.taken else taken_from es operation a b
+
+abbrev pub ordered : Operation → ℤ → ℤ → Bool
+ordered Minus a b = true
+ordered operation a b = int_le a b
+
+-- the value of an operation: that of its entry, and true arithmetic where no entry stands
+abbrev pub value_of_operation : List Entry → Operation → ℤ → ℤ → ℤ
+value_of_operation table operation a b = if ordered operation a b then taken_from table operation a b else taken_from table operation b a
+
+-- Step maps
+
+abbrev pub step_from : ℤ → List StepPair → ℤ → ℤ
+step_from value [] position = value
+step_from value (pair ∷ pairs) position = if int_le pair.at position then step_from pair.value pairs position else step_from value pairs position
+
+-- the value of the last listed position that isn't above; the positions of a step map rise
+abbrev pub step_value : List StepPair → ℤ → ℤ
+step_value pairs position = step_from (pos 0) pairs position
+
+-- The setting of the judge
+
+-- a run's rest, by the picks that are left
+abbrev pub Judged : Type 0
+Judged = List Pick → End
+
+abbrev pub pick_number : (ℤ → Judged) → Judged
+pick_number next [] = Blocked
+pick_number next (Number z ∷ picks) = next z picks
+pick_number next (Turn n ∷ picks) = Blocked
+pick_number next (Steps map ∷ picks) = Blocked
+
+abbrev pub pick_turn : (ℕ → Judged) → Judged
+pick_turn next [] = Blocked
+pick_turn next (Number z ∷ picks) = Blocked
+pick_turn next (Turn n ∷ picks) = if nat_lt n 3 then next n picks else Blocked
+pick_turn next (Steps map ∷ picks) = Blocked
+
+abbrev pub pick_steps : ((ℤ → ℤ) → Judged) → Judged
+pick_steps next [] = Blocked
+pick_steps next (Number z ∷ picks) = Blocked
+pick_steps next (Turn n ∷ picks) = Blocked
+pick_steps next (Steps map ∷ picks) = next (step_value map) picks
+
+abbrev pub is_true : Option Bool → Bool
+is_true None = false
+is_true (Some b) = b
+
+abbrev pub true_at_each : (ℤ → Tested) → ℤ → ℕ → Bool
+true_at_each test low zero = true
+true_at_each test low (suc n) = is_true (test low).truth && true_at_each test (low +ℤ pos 1) n
+
+-- the fact can be evaluated and is true at every position
+abbrev pub is_known_true : Known → Bool
+is_known_true k = true_at_each k.test k.low (width k.low k.high)
+
+abbrev pub blocked : Judged
+blocked picks = Blocked
+
+abbrev pub judging : List Entry → Setting Judged
+judging table = record {
+  finished = λ picks. Finished;
+  blocked = blocked;
+  failed = λ check span picks. Failed check span;
+  unfit = blocked;
+  pick = pick_number;
+  turn = pick_turn;
+  steps = pick_steps;
+  operation = value_of_operation table;
+  using = λ operation a b rest. rest;
+  comparing = λ a b rest. rest;
+  matching = λ a b rest. rest;
+  deciding = λ b rest. rest;
+  noticing = λ event rest. rest;
+  reading = λ origin rest. rest;
+  knowing = λ known rest. if is_known_true known then rest else blocked;
+}
+
+-- the end of a unit's run on evidence
+abbrev pub judge : Program → PvUnit → Evidence → End
+judge p unit evidence = judge_task (judging evidence.table) p (task_of p unit) evidence.picks
+
+-- the first inhale goes
+abbrev pub Enters : Program → PvUnit → Evidence → Type 0
+Enters p unit evidence = enter_task (judging evidence.table) (task_of p unit) evidence.picks ≡ Finished
+
+-- the run fails
+abbrev pub Fails : Program → PvUnit → Evidence → Type 0
+Fails p unit evidence = (check : Check) × (span : Span) × (judge p unit evidence ≡ Failed check span)

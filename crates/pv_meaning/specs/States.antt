@@ -1,0 +1,210 @@
+-- Permission states of one run of a unit: what it holds, with the values, and what it knows.
+use Rattle.std.specs.Prelude.{ℕ, zero, suc, ◌+◌, ◌-◌, ℤ, pos, int_le, Bool, true, false, ◌&&◌, ◌||◌, nat_eq, if◌then◌else◌, Option, Some, None, List, [], ◌∷◌}
+use Rattle.pv_base.specs.declared.Name.{Name}
+use Rattle.pv_ast.specs.declared.PvType.{PvType}
+use Rattle.pv_ast.specs.declared.PvType.TheVariants.{Truth}
+use Rattle.pv_ast.specs.declared.Token.{Token}
+use Rattle.pv_ast.specs.declared.Token.TheVariants as token
+use Rattle.pv_values.specs.declared.value.Value.{Value}
+use Rattle.pv_values.specs.declared.value.Value.TheVariants as value
+use Rattle.pv_values.specs.Heaps.{same_name, same_number}
+use Rattle.pv_values.specs.Sames.{same_elements}
+use Rattle.pv_meaning.specs.Values.{Variables, no_variables, same_type, within, with_variable}
+use Rattle.pv_meaning.specs.Evaluation.{Scene}
+
+-- what a run holds amounts of: a field of an object, an element of an array, a token of an object, the lock of an object. Objects are
+-- numbered apart by their class, arrays by the type of their elements. Tokens and locks are held whole or not at all
+pub data Resource : Type 0 where
+  -- class, object, field
+  InField : Name → ℕ → Name → Resource
+  -- type of the elements, array, index
+  InElement : PvType → ℕ → ℤ → Resource
+  -- token, class, object
+  OfToken : Token → Name → ℕ → Resource
+  -- class, object
+  OfLock : Name → ℕ → Resource
+
+abbrev pub same_token : Token → Token → Bool
+same_token token.Idle token.Idle = true
+same_token token.Running token.Running = true
+same_token token.Committed token.Committed = true
+same_token token.Uncommitted token.Uncommitted = true
+same_token _ _ = false
+
+abbrev pub same_resource : Resource → Resource → Bool
+same_resource (InField c o f) (InField d p g) = same_name c d && (nat_eq o p && same_name f g)
+same_resource (InElement t a i) (InElement u b j) = same_type t u && (nat_eq a b && same_number i j)
+same_resource (OfToken t c o) (OfToken u d p) = same_token t u && (same_name c d && nat_eq o p)
+same_resource (OfLock c o) (OfLock d p) = same_name c d && nat_eq o p
+same_resource _ _ = false
+
+-- a folded predicate of an object
+pub record Folded : Type 0 where
+  pub class : Name
+  pub predicate : Name
+  pub object : ℕ
+  pub arguments : List Value
+
+abbrev pub same_folded : Folded → Folded → Bool
+same_folded a b = same_name a.class b.class && (same_name a.predicate b.predicate && (nat_eq a.object b.object && same_elements a.arguments b.arguments))
+
+-- where a value comes from: from the so-many-th pick for a range, as its number at an index; or from elsewhere
+pub data Origin : Type 0 where
+  Elsewhere : Origin
+  -- pick, index, number
+  FromSteps : ℕ → ℤ → ℤ → Origin
+
+pub record Cell : Type 0 where
+  pub value : Value
+  pub origin : Origin
+
+abbrev pub plain_cell : Value → Cell
+plain_cell v = record { value = v; origin = Elsewhere }
+
+-- what is in held locations
+abbrev pub Cells : Type 0
+Cells = Resource → Option Cell
+
+pub record State : Type 0 where
+  pub amount : Resource → ℕ
+  pub cell : Resource → Cell
+  pub instances : List Folded
+  -- class and object
+  pub committed : Name → ℕ → Bool
+  -- type of the elements and array
+  pub lengths : PvType → ℕ → Option ℤ
+  -- the references that the run has met, with their types
+  pub met : List (PvType × ℕ)
+  -- how many picks for ranges were taken
+  pub steps : ℕ
+  pub this : ℕ
+  pub variables : Variables
+  pub result : Value
+  -- what was held in the old state
+  pub old : Cells
+
+-- what formulas speak of besides what is held: the scene, and the old state
+pub record Bind : Type 0 where
+  pub scene : Scene
+  pub old : Cells
+
+abbrev pub scene_of : State → Scene
+scene_of s = record { this = s.this; variables = s.variables; result = s.result }
+
+-- a formula of the unit's own
+abbrev pub bind_of : State → Bind
+bind_of s = record { scene = scene_of s; old = s.old }
+
+-- a value is known of what is held
+abbrev pub held : ℕ → Cell → Option Cell
+held zero c = None
+held (suc a) c = Some c
+
+abbrev pub cells_of : State → Cells
+cells_of s r = held (s.amount r) (s.cell r)
+
+abbrev pub no_cells : Cells
+no_cells r = None
+
+-- Changes of a state
+
+abbrev pub at_resource : {A : Type 0} → Resource → A → (Resource → A) → Resource → A
+at_resource resource a others other = if same_resource other resource then a else others other
+
+abbrev pub with_amount : State → Resource → ℕ → State
+with_amount s resource amount = record s { amount = at_resource resource amount s.amount }
+
+abbrev pub with_value : State → Resource → Value → State
+with_value s resource v = record s { cell = at_resource resource (plain_cell v) s.cell }
+
+abbrev pub with_cell : State → Resource → ℕ → Value → State
+with_cell s resource amount v = with_value (with_amount s resource amount) resource v
+
+-- an element of the array, from the first index to below the second
+abbrev pub is_among : PvType → ℕ → ℤ → ℤ → Resource → Bool
+is_among type array low high (InElement t a i) = same_type t type && (nat_eq a array && within low high i)
+is_among type array low high _ = false
+
+abbrev pub index_of : Resource → ℤ → ℤ
+index_of (InElement t a i) otherwise = i
+index_of _ otherwise = otherwise
+
+-- what is in an element that was held, or else what its index is given
+abbrev pub cell_among : ℕ → Cell → (ℤ → Cell) → Resource → ℤ → Cell
+cell_among zero c given resource low = given (index_of resource low)
+cell_among (suc amount) c given resource low = c
+
+-- so much more of each element of a range; one that wasn't held takes what its index is given
+abbrev pub with_elements : State → PvType → ℕ → ℤ → ℤ → ℕ → (ℤ → Cell) → State
+with_elements s type array low high amount given = record s {
+  amount = λ r. if is_among type array low high r then s.amount r + amount else s.amount r;
+  cell = λ r. if is_among type array low high r then cell_among (s.amount r) (s.cell r) given r low else s.cell r;
+}
+
+-- an element by its number in a pick for a range
+abbrev pub as_element : PvType → ℤ → Value
+as_element Truth z = value.Truth (int_le (pos 1) z)
+as_element type z = value.Number z
+
+abbrev pub cell_of_steps : ℕ → PvType → (ℤ → ℤ) → ℤ → Cell
+cell_of_steps number type given index = record { value = as_element type (given index); origin = FromSteps number index (given index) }
+
+-- the same with the values of a pick
+abbrev pub with_range : State → PvType → ℕ → ℤ → ℤ → ℕ → (ℤ → ℤ) → State
+with_range s type array low high amount given =
+    let filled : State = with_elements s type array low high amount (cell_of_steps s.steps type given) in record filled { steps = suc s.steps }
+
+-- so much less of each
+abbrev pub without_range : State → PvType → ℕ → ℤ → ℤ → ℕ → State
+without_range s type array low high amount = record s { amount = λ r. if is_among type array low high r then s.amount r - amount else s.amount r }
+
+abbrev pub with_length : State → PvType → ℕ → ℤ → State
+with_length s type array n = record s { lengths = λ t a. if same_type t type && nat_eq a array then Some n else s.lengths t a }
+
+abbrev pub with_committed : State → Name → ℕ → State
+with_committed s class object = record s { committed = λ c o. (same_name c class && nat_eq o object) || s.committed c o }
+
+abbrev pub with_met : State → PvType → ℕ → State
+with_met s type reference = record s { met = (type, reference) ∷ s.met }
+
+abbrev pub with_instances : State → List Folded → State
+with_instances s instances = record s { instances = instances }
+
+abbrev pub with_local : State → Name → Value → State
+with_local s name v = record s { variables = with_variable s.variables name v }
+
+abbrev pub with_result : State → Value → State
+with_result s v = record s { result = v }
+
+-- "nothing held": all else stays, as variables, the old state, what is known committed and the lengths
+abbrev pub nothing_held : State → State
+nothing_held s = record s { amount = λ r. 0; instances = [] }
+
+-- the state before, with what was learned since: lengths, references met, picks taken
+abbrev pub having_learned : State → State → State
+having_learned before after = record before { lengths = after.lengths; met = after.met; steps = after.steps }
+
+-- the list without the first that is the same
+abbrev pub or_kept : Folded → Option (List Folded) → Option (List Folded)
+or_kept x None = None
+or_kept x (Some xs) = Some (x ∷ xs)
+
+abbrev pub without_instance : Folded → List Folded → Option (List Folded)
+without_instance folded [] = None
+without_instance folded (x ∷ xs) = if same_folded folded x then Some xs else or_kept x (without_instance folded xs)
+
+-- before a run takes its first pick
+abbrev pub empty_state : State
+empty_state = record {
+  amount = λ r. 0;
+  cell = λ r. plain_cell (value.Reference 0);
+  instances = [];
+  committed = λ class object. false;
+  lengths = λ type array. None;
+  met = [];
+  steps = 0;
+  this = 0;
+  variables = no_variables;
+  result = value.Reference 0;
+  old = no_cells;
+}

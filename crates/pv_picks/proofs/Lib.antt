@@ -1,0 +1,16 @@
+pub mod Layers
+pub mod Worked
+pub mod WorkedStatements
+pub mod Equations
+pub mod Clean
+pub mod Mirrors
+pub mod Sound
+pub mod Keeping
+pub mod Resolving
+pub mod Agreeing
+pub mod Heads
+pub mod Uses
+pub mod StmtLayers
+pub mod Stmts
+pub mod Whole
+pub mod Matching

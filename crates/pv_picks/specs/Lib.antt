@@ -1,0 +1,9 @@
+pub mod Operations
+pub mod Names
+pub mod Pieces
+pub mod Statements
+pub mod Programs
+pub mod Units
+pub mod Theorems
+pub mod Resolved
+pub mod Messages

@@ -1,0 +1,5 @@
+mod Objects
+mod Arrays
+mod Threads
+mod Longest
+mod Bytes

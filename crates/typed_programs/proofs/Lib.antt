@@ -1,0 +1,7 @@
+mod Statements
+mod Local
+mod Labels
+mod Kept
+mod Steps
+mod Reached
+mod Counting

@@ -1,0 +1,75 @@
+-- Types of expressions in the bodies of a plain program.
+use Rattle.std.specs.Prelude.{◌≡◌, ◌⊎◌, zero, suc, Bool, true, false, nat_eq, if◌then◌else◌, IsTrue, Option, Some, None, unwrap_or, List, [], ◌∷◌}
+use Rattle.pv_base.specs.declared.Name.{Name}
+use Rattle.pv_ast.specs.declared.PvType.{PvType}
+use Rattle.pv_ast.specs.declared.PvType.TheVariants.{Int, Truth, Object, IntArray, TruthArray, Null}
+use Rattle.pv_values.specs.declared.value.Value.{Value}
+use Rattle.pv_values.specs.declared.value.Value.TheVariants as value
+use Rattle.pv_meaning.specs.Core.{Expression, Constant, This, Result, Variable, Field, Element, Length, Not, Compute, Compare, Equal, And, Or, Implies, Old, Parameter, Method, Program}
+use Rattle.pv_meaning.specs.Values.{array_of}
+use Rattle.pv_meaning.specs.Members.{field_type}
+
+-- where a body stands: in a program, with the class of `this` and the type of what it returns, if it returns to a call
+pub record Home : Type 0 where
+  pub program : Program
+  pub class : Name
+  pub answer : Option PvType
+
+-- a method without a result answers null
+abbrev pub answer_of : Method → PvType
+answer_of m = unwrap_or m.result Null
+
+-- the type of a variable among those in scope, of which the last declared comes first
+abbrev pub type_in : List Parameter → Name → Option PvType
+type_in [] name = None
+type_in (x ∷ xs) name = if nat_eq name.0 x.0.0 then Some x.1 else type_in xs name
+
+abbrev pub is_reference : PvType → Bool
+is_reference Int = false
+is_reference Truth = false
+is_reference (Object class) = true
+is_reference IntArray = true
+is_reference TruthArray = true
+is_reference Null = true
+
+-- arrays are of whole numbers or of truth values
+abbrev pub IsElement : PvType → Type 0
+IsElement type = (type ≡ Int) ⊎ (type ≡ Truth)
+
+-- a constant goes where the type is wanted: null goes where any reference does
+abbrev pub IsConstantOf : Value → PvType → Type 0
+IsConstantOf (value.Number z) type = type ≡ Int
+IsConstantOf (value.Truth b) type = type ≡ Truth
+IsConstantOf (value.Reference zero) type = IsTrue (is_reference type)
+IsConstantOf (value.Reference (suc n)) type = ⊥
+
+-- an expression goes where the type is wanted; `\result` and `\old` stand in formulas alone
+abbrev pub IsOf : Home → List Parameter → Expression → PvType → Type 0
+IsOf h xs (Constant v) type = IsConstantOf v type
+IsOf h xs This type = type ≡ Object h.class
+IsOf h xs Result type = ⊥
+IsOf h xs (Variable name) type = type_in xs name ≡ Some type
+IsOf h xs (Field object class name span) type = IsOf h xs object (Object class) × (field_type h.program class name ≡ Some type)
+IsOf h xs (Element element array index span) type =
+    IsOf h xs array (array_of element) × IsOf h xs index Int × IsElement element × (type ≡ element)
+IsOf h xs (Length element array span) type = IsOf h xs array (array_of element) × IsElement element × (type ≡ Int)
+IsOf h xs (Not e) type = IsOf h xs e Truth × (type ≡ Truth)
+IsOf h xs (Compute manner operation a b span) type = IsOf h xs a Int × IsOf h xs b Int × (type ≡ Int)
+IsOf h xs (Compare order a b) type = IsOf h xs a Int × IsOf h xs b Int × (type ≡ Truth)
+IsOf h xs (Equal same a b) type = (both : PvType) × IsOf h xs a both × IsOf h xs b both × (type ≡ Truth)
+IsOf h xs (And a b) type = IsOf h xs a Truth × IsOf h xs b Truth × (type ≡ Truth)
+IsOf h xs (Or a b) type = IsOf h xs a Truth × IsOf h xs b Truth × (type ≡ Truth)
+IsOf h xs (Implies a b) type = IsOf h xs a Truth × IsOf h xs b Truth × (type ≡ Truth)
+IsOf h xs (Old e) type = ⊥
+
+-- each expression goes where its type is wanted
+abbrev pub AreOf : Home → List Parameter → List Expression → List PvType → Type 0
+AreOf h xs [] [] = Unit {0}
+AreOf h xs [] (type ∷ types) = ⊥
+AreOf h xs (e ∷ es) [] = ⊥
+AreOf h xs (e ∷ es) (type ∷ types) = IsOf h xs e type × AreOf h xs es types
+
+-- types over others, the last on top
+abbrev pub onto : List PvType → List PvType → List PvType
+onto [] stack = stack
+onto (type ∷ types) stack = onto types (type ∷ stack)
