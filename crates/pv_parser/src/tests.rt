@@ -36,10 +36,24 @@ fn expect_fault(
     Ok(())
 }
 
+/// Programs, and for each a neighbour with its first fault.
+fn expect_programs(
+    rt: &impl Abort,
+    alloc: Global,
+    rows: &[(&[u8], &[u8], u32, u32)],
+) -> Result<(), Fail> {
+    for row in rows {
+        let (accepted, refused, from, to) = *row;
+        expect_program(rt, alloc, accepted)?;
+        let fault = ParseFault::Unexpected(Span { from, to });
+        expect_fault(rt, alloc, refused, fault)?;
+    }
+    Ok(())
+}
+
 #[test]
 fn faults_in_classes(rt: HostRuntime) -> Result<(), Fail> {
-    // A program, and a neighbour with its first fault.
-    let rows: [(&[u8], &[u8], u32, u32); 11] = [
+    let rows: [(&[u8], &[u8], u32, u32); 4] = [
         (b"", b"1", 0, 1),
         (
             b"class A { } class B { }",
@@ -54,6 +68,13 @@ fn faults_in_classes(rt: HostRuntime) -> Result<(), Fail> {
             18,
             32,
         ),
+    ];
+    expect_programs(&rt, rt.alloc(), &rows)
+}
+
+#[test]
+fn faults_in_members(rt: HostRuntime) -> Result<(), Fail> {
+    let rows: [(&[u8], &[u8], u32, u32); 7] = [
         (
             b"class A { int x; B y; }",
             b"class A { int x = 1; }",
@@ -92,16 +113,7 @@ fn faults_in_classes(rt: HostRuntime) -> Result<(), Fail> {
             24,
         ),
     ];
-    for (accepted, refused, from, to) in rows {
-        expect_program(&rt, rt.alloc(), accepted)?;
-        expect_fault(
-            &rt,
-            rt.alloc(),
-            refused,
-            ParseFault::Unexpected(Span { from, to }),
-        )?;
-    }
-    Ok(())
+    expect_programs(&rt, rt.alloc(), &rows)
 }
 
 /// A program whose one method has that body.
@@ -113,14 +125,49 @@ fn method(alloc: Global, body: &[u8]) -> Result<Vec<u8>, AllocError> {
     Ok(text)
 }
 
+/// Bodies of a method, and for each a neighbour with its first fault. The front is 21 bytes.
+fn expect_bodies(
+    rt: &impl Abort,
+    alloc: Global,
+    rows: &[(&[u8], &[u8], u32, u32)],
+) -> Result<(), Fail> {
+    for row in rows {
+        let (accepted, refused, from, to) = *row;
+        let text = method(alloc, accepted)?;
+        expect_program(rt, alloc, text.as_slice())?;
+        let text = method(alloc, refused)?;
+        let fault = ParseFault::Unexpected(Span { from, to });
+        expect_fault(rt, alloc, text.as_slice(), fault)?;
+    }
+    Ok(())
+}
+
 #[test]
-fn faults_in_bodies(rt: HostRuntime) -> Result<(), Fail> {
-    // A body, and a neighbour with its first fault. The front is 21 bytes.
-    let rows: [(&[u8], &[u8], u32, u32); 35] = [
+fn faults_in_simple_statements(rt: HostRuntime) -> Result<(), Fail> {
+    let rows: [(&[u8], &[u8], u32, u32); 11] = [
         (b"int x; int[] y = z; B b = a;", b"int x, y;", 26, 27),
         (b"B b; b = a; b(a);", b"a;", 22, 23),
         (b"this.a = 1; a[0].b[1] = 2;", b"this = a;", 26, 27),
         (b"a(); this.a(1, b); a[0].b(c);", b"a[0](1);", 25, 26),
+        (
+            b"fork a; join a.b; lock this; unlock a[0]; commit a;",
+            b"fork a ==> b;",
+            28,
+            31,
+        ),
+        (b"fold a(); unfold this.a(b, 1);", b"fold a[0];", 30, 31),
+        (b"assert a ==> b;", b"assert ;", 28, 29),
+        (b"send a, 1: b ** c;", b"send a, b: c;", 29, 30),
+        (b"recv a;", b"recv a, 1;", 27, 28),
+        (b"return; return a;", b"return a ** b;", 30, 32),
+        (b"", b"wait a;", 21, 25),
+    ];
+    expect_bodies(&rt, rt.alloc(), &rows)
+}
+
+#[test]
+fn faults_in_blocks(rt: HostRuntime) -> Result<(), Fail> {
+    let rows: [(&[u8], &[u8], u32, u32); 5] = [
         (
             b"if (a) { } else if (b) { } else { }",
             b"if (a) { } else while (b) { }",
@@ -151,18 +198,13 @@ fn faults_in_bodies(rt: HostRuntime) -> Result<(), Fail> {
             35,
             36,
         ),
-        (
-            b"fork a; join a.b; lock this; unlock a[0]; commit a;",
-            b"fork a ==> b;",
-            28,
-            31,
-        ),
-        (b"fold a(); unfold this.a(b, 1);", b"fold a[0];", 30, 31),
-        (b"assert a ==> b;", b"assert ;", 28, 29),
-        (b"send a, 1: b ** c;", b"send a, b: c;", 29, 30),
-        (b"recv a;", b"recv a, 1;", 27, 28),
-        (b"return; return a;", b"return a ** b;", 30, 32),
-        (b"", b"wait a;", 21, 25),
+    ];
+    expect_bodies(&rt, rt.alloc(), &rows)
+}
+
+#[test]
+fn faults_in_sides(rt: HostRuntime) -> Result<(), Fail> {
+    let rows: [(&[u8], &[u8], u32, u32); 8] = [
         (
             b"x = new A(); x = new int[a]; x = a.b(1);",
             b"x = new A[1];",
@@ -181,6 +223,13 @@ fn faults_in_bodies(rt: HostRuntime) -> Result<(), Fail> {
             25,
             32,
         ),
+    ];
+    expect_bodies(&rt, rt.alloc(), &rows)
+}
+
+#[test]
+fn faults_in_formulas(rt: HostRuntime) -> Result<(), Fail> {
+    let rows: [(&[u8], &[u8], u32, u32); 8] = [
         (
             b"assert a && b ** c ==> d || e ==> f;",
             b"assert a || b ** c;",
@@ -214,6 +263,13 @@ fn faults_in_bodies(rt: HostRuntime) -> Result<(), Fail> {
             39,
             40,
         ),
+    ];
+    expect_bodies(&rt, rt.alloc(), &rows)
+}
+
+#[test]
+fn faults_in_quantifiers(rt: HostRuntime) -> Result<(), Fail> {
+    let rows: [(&[u8], &[u8], u32, u32); 3] = [
         (
             b"assert (\\forall int i = 0 .. n; a ==> b);",
             b"assert \\forall int i = 0 .. n; a;",
@@ -233,18 +289,7 @@ fn faults_in_bodies(rt: HostRuntime) -> Result<(), Fail> {
             58,
         ),
     ];
-    for (accepted, refused, from, to) in rows {
-        let text = method(rt.alloc(), accepted)?;
-        expect_program(&rt, rt.alloc(), text.as_slice())?;
-        let text = method(rt.alloc(), refused)?;
-        expect_fault(
-            &rt,
-            rt.alloc(),
-            text.as_slice(),
-            ParseFault::Unexpected(Span { from, to }),
-        )?;
-    }
-    Ok(())
+    expect_bodies(&rt, rt.alloc(), &rows)
 }
 
 /// Bodies of a method that differ in how often a piece stands.
@@ -296,9 +341,16 @@ fn expect_depth(rt: &impl Abort, alloc: Global, row: Deep) -> Result<(), Fail> {
     )
 }
 
+fn expect_depths(rt: &impl Abort, alloc: Global, rows: &[Deep]) -> Result<(), Fail> {
+    for row in rows {
+        expect_depth(rt, alloc, *row)?;
+    }
+    Ok(())
+}
+
 #[test]
-fn depths(rt: HostRuntime) -> Result<(), Fail> {
-    let rows: [Deep; 20] = [
+fn depths_of_prefixes(rt: HostRuntime) -> Result<(), Fail> {
+    let rows: [Deep; 3] = [
         Deep {
             front: b"assert ",
             piece: b"(",
@@ -329,6 +381,13 @@ fn depths(rt: HostRuntime) -> Result<(), Fail> {
             from: 90,
             to: 91,
         },
+    ];
+    expect_depths(&rt, rt.alloc(), &rows)
+}
+
+#[test]
+fn depths_of_joined_formulas(rt: HostRuntime) -> Result<(), Fail> {
+    let rows: [Deep; 4] = [
         Deep {
             front: b"assert a",
             piece: b" ==> a",
@@ -369,6 +428,13 @@ fn depths(rt: HostRuntime) -> Result<(), Fail> {
             from: 340,
             to: 342,
         },
+    ];
+    expect_depths(&rt, rt.alloc(), &rows)
+}
+
+#[test]
+fn depths_of_operators(rt: HostRuntime) -> Result<(), Fail> {
+    let rows: [Deep; 4] = [
         Deep {
             front: b"return a",
             piece: b" + a",
@@ -409,6 +475,13 @@ fn depths(rt: HostRuntime) -> Result<(), Fail> {
             from: 212,
             to: 214,
         },
+    ];
+    expect_depths(&rt, rt.alloc(), &rows)
+}
+
+#[test]
+fn depths_of_postfixes(rt: HostRuntime) -> Result<(), Fail> {
+    let rows: [Deep; 3] = [
         Deep {
             front: b"return a",
             piece: b".b",
@@ -439,6 +512,13 @@ fn depths(rt: HostRuntime) -> Result<(), Fail> {
             from: 91,
             to: 92,
         },
+    ];
+    expect_depths(&rt, rt.alloc(), &rows)
+}
+
+#[test]
+fn depths_of_targets(rt: HostRuntime) -> Result<(), Fail> {
+    let rows: [Deep; 3] = [
         Deep {
             front: b"a",
             piece: b".b",
@@ -469,6 +549,13 @@ fn depths(rt: HostRuntime) -> Result<(), Fail> {
             from: 146,
             to: 147,
         },
+    ];
+    expect_depths(&rt, rt.alloc(), &rows)
+}
+
+#[test]
+fn depths_of_arguments_and_blocks(rt: HostRuntime) -> Result<(), Fail> {
+    let rows: [Deep; 3] = [
         Deep {
             front: b"assert ",
             piece: b"a(",
@@ -500,8 +587,5 @@ fn depths(rt: HostRuntime) -> Result<(), Fail> {
             to: 772,
         },
     ];
-    for row in rows {
-        expect_depth(&rt, rt.alloc(), row)?;
-    }
-    Ok(())
+    expect_depths(&rt, rt.alloc(), &rows)
 }
