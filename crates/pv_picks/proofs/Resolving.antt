@@ -43,7 +43,7 @@ use Rattle.pv_picks.specs.Resolved.{Resolved, AllResolved, ResolvedUse, Resolved
 use Rattle.pv_picks.proofs.Clean.{Clean, unless_holds, if_fails}
 use Rattle.pv_picks.proofs.Layers.{layer_of, each_layer_of, kind_at_roll, each_at_roll, expr_at_roll}
 use Rattle.pv_picks.proofs.Mirrors.{class_has}
-use Rattle.pv_picks.proofs.Sound.{Sound, SeenKept, IsDeclared, IsObject, sound_with, variable_declared, meets_need, typed_seen, operator_seen, old_seen, element_seen, object_kept, holder_is, field_found}
+use Rattle.pv_picks.proofs.Sound.{Sound, SeenKept, IsDeclared, declared_class, IsObject, sound_with, variable_declared, meets_need, typed_seen, operator_seen, old_seen, element_seen, object_kept, holder_is, field_found}
 use Rattle.pv_picks.proofs.Keeping.{PlaceTyped, operation_kept, operation_no_place, negation_kept, negation_no_place, cuts_kept, term_kept, permission_kept, shifted_kept, formula_if, item_if, items_if, together_kept}
 
 -- what a part gives where it stands is resolved, whatever conjunct it stands in
@@ -107,7 +107,7 @@ this_seen tree a v sound = record { settled = λ i. cc; this = λ i. refl; decla
 
 result_seen : (a : Around) (o : Option PvType) → ((type : PvType) → o ≡ Some type → is_declared_type a.program.classes type ≡ true) → SeenKept a (value_seen (typing.typing_or Untyped o) false)
 result_seen a None h = record { settled = λ i. cc; this = λ i. absurd cc; declared = tt }
-result_seen a (Some type) h = record { settled = λ i. cc; this = λ i. absurd cc; declared = h type refl }
+result_seen a (Some type) h = record { settled = λ i. cc; this = λ i. absurd cc; declared = declared_class a.program.classes type (h type refl) }
 
 -- Names
 
@@ -125,14 +125,14 @@ own_field tree a v span name None h sound known = absurd cc
 own_field tree a v span name (Some type) h sound known =
     let here : type_of_field (class_named a.program.classes a.class) name ≡ Some type = ap (λ c. type_of_field c name) (sym sound.here) ∙ h in
     let declared : field_type tree a.class name ≡ Some type = field_is tree a v a.class name type sound here in
-    plain tree a _ _ span (record { settled = λ i. cc; this = λ i. absurd cc; declared = sound.fields a.class name type here }) (tt, is_some_at _ type declared) declared
+    plain tree a _ _ span (record { settled = λ i. cc; this = λ i. absurd cc; declared = declared_class a.program.classes type (sound.fields a.class name type here) }) (tt, is_some_at _ type declared) declared
 
 name_kept : (tree : core.Program) (a : Around) (v : Visible) (span : Span) (name : Name) (o : Option Declared) → variable_named v name ≡ o → Sound tree a v → (is_some o || is_some (type_of_field a.here name)) ≡ true
     → Kept tree a (seen_of_name a name o) (named a span name o)
     (λ around. core.Fact (named a span name o) (conjunct around span)) (λ n around. alone (core.Repeated (named a span name o) (conjunct around span))) (λ n around. core.Repeated (named a span name o) (conjunct around span))
 name_kept tree a v span name None h sound known = own_field tree a v span name (type_of_field a.here name) refl sound known
 name_kept tree a v span name (Some d) h sound known =
-    plain tree a _ _ span (record { settled = λ i. cc; this = λ i. absurd cc; declared = variable_declared tree a v name d sound h }) tt tt
+    plain tree a _ _ span (record { settled = λ i. cc; this = λ i. absurd cc; declared = declared_class a.program.classes d.kind (variable_declared tree a v name d sound h) }) tt tt
 
 -- Fields and lengths
 
@@ -173,7 +173,7 @@ member_by tree a s span name e true h f = plain tree a _ _ span (record { settle
 member_by tree a s span name e false h f =
     let k = f refl in
     plain tree a _ _ span
-    (record { settled = λ i. let j : Typed k.type ≡ Unsettled = sym k.typed ∙ i in cc j; this = λ i. absurd cc; declared = subst (λ (t : Typing). IsDeclared a.program.classes t) (sym k.typed) k.declared })
+    (record { settled = λ i. let j : Typed k.type ≡ Unsettled = sym k.typed ∙ i in cc j; this = λ i. absurd cc; declared = subst (λ (t : Typing). IsDeclared a.program.classes t) (sym k.typed) (declared_class a.program.classes k.type k.declared) })
     (h, is_some_at _ k.type k.field)
     (k.field ∙ ap (λ (t : Typing). Some (settled t)) (sym k.typed))
 

@@ -1,5 +1,5 @@
 -- Where expressions stand in a program that breaks no rule, and what the types of parts without a fault say there.
-use Rattle.std.proofs.Common.{◌≡◌, ℕ, Bool, true, false, not, Option, Some, None, is_some, List, [], ◌∷◌, ◌++◌, refl, sym, ◌∙◌, ap, subst}
+use Rattle.std.proofs.Common.{◌≡◌, ℕ, Bool, true, false, not, ◌||◌, Option, Some, None, is_some, List, [], ◌∷◌, ◌++◌, refl, sym, ◌∙◌, ap, subst}
 use Rattle.std.proofs.lemmas.Bool.{and_from}
 use Rattle.std.specs.Prelude.{nat_eq, if◌then◌else◌}
 use Rattle.std.specs.List.{AllByRecursion}
@@ -28,13 +28,27 @@ use Rattle.pv_picks.proofs.Clean.{Clean, unless_holds}
 use Rattle.pv_picks.proofs.Mirrors.{Mirrors}
 
 -- the class of a type, where it has one, is declared
+abbrev pub has_class : List Class → PvType → Bool
+has_class classes type = typing.is_null type || is_declared_type classes type
+
+pub declared_class : (classes : List Class) (type : PvType) → is_declared_type classes type ≡ true → has_class classes type ≡ true
+declared_class classes type h = or_true (typing.is_null type) (is_declared_type classes type) h
+  where
+    or_true : (x y : Bool) → y ≡ true → (x || y) ≡ true
+    or_true true y k = refl
+    or_true false y k = k
+
 abbrev pub IsDeclared : List Class → Typing → Type 0
 IsDeclared classes Unsettled = Unit {0}
 IsDeclared classes Untyped = Unit {0}
-IsDeclared classes (Typed type) = is_declared_type classes type ≡ true
+IsDeclared classes (Typed type) = has_class classes type ≡ true
+
+-- a name in scope is a block's, or a variable's of a type that a declaration may have
+abbrev pub may_declare : List Class → Declared → Bool
+may_declare classes d = is_block d.declaration || is_declared_type classes d.kind
 
 abbrev pub AllDeclared : List Class → List (ℕ × Declared) → Type 0
-AllDeclared classes names = AllByRecursion (λ entry. is_declared_type classes entry.1.kind ≡ true) names
+AllDeclared classes names = AllByRecursion (λ entry. may_declare classes entry.1 ≡ true) names
 
 -- the plain tree declares what the program does, the class of `this` stands in it, and each type of a field, of the result and of a
 -- variable in scope is declared
@@ -54,16 +68,16 @@ pub record SeenKept (a : Around) (s : Seen) : Type 0 where
 
 -- Names in scope
 
-one_more : (classes : List Class) (names : List (ℕ × Declared)) (entry : ℕ × Declared) → AllDeclared classes names → is_declared_type classes entry.1.kind ≡ true → AllDeclared classes (names ++ entry ∷ [])
+one_more : (classes : List Class) (names : List (ℕ × Declared)) (entry : ℕ × Declared) → AllDeclared classes names → may_declare classes entry.1 ≡ true → AllDeclared classes (names ++ entry ∷ [])
 one_more classes [] entry h k = (k, tt)
 one_more classes (e ∷ es) entry h k = (h.0, one_more classes es entry h.1 k)
 
-declared_if : (classes : List Class) (v : Visible) (b : Bool) (entry : ℕ × Declared) → AllDeclared classes v.names → is_declared_type classes entry.1.kind ≡ true → AllDeclared classes (if b then v else record v { names = v.names ++ entry ∷ [] }).names
+declared_if : (classes : List Class) (v : Visible) (b : Bool) (entry : ℕ × Declared) → AllDeclared classes v.names → may_declare classes entry.1 ≡ true → AllDeclared classes (if b then v else record v { names = v.names ++ entry ∷ [] }).names
 declared_if classes v true entry h k = h
 declared_if classes v false entry h k = one_more classes v.names entry h k
 
--- one more name of a declared type is in scope
-pub sound_with : (tree : core.Program) (a : Around) (v : Visible) (how : Declaration) (name : Name) (type : PvType) → is_declared_type a.program.classes type ≡ true → Sound tree a v → Sound tree a (declare_variable how v name type)
+-- one more name is in scope: a block's, or a variable's of a type that a declaration may have
+pub sound_with : (tree : core.Program) (a : Around) (v : Visible) (how : Declaration) (name : Name) (type : PvType) → may_declare a.program.classes (record { declaration = how; kind = type }) ≡ true → Sound tree a v → Sound tree a (declare_variable how v name type)
 sound_with tree a v how name type d s = record {
   mirrors = s.mirrors;
   here = s.here;
@@ -73,24 +87,33 @@ sound_with tree a v how name type d s = record {
   visible = declared_if a.program.classes v (is_visible v name) (name.0, record { declaration = how; kind = type }) s.visible d;
 }
 
-found_if : (classes : List Class) (b : Bool) (d : Declared) (rest : Option Declared) (e : Declared) → is_declared_type classes d.kind ≡ true → (rest ≡ Some e → is_declared_type classes e.kind ≡ true) → (if b then Some d else rest) ≡ Some e → is_declared_type classes e.kind ≡ true
-found_if classes true d rest e h k i = let same : d ≡ e = cc in subst (λ (x : Declared). is_declared_type classes x.kind ≡ true) same h
+found_if : (classes : List Class) (b : Bool) (d : Declared) (rest : Option Declared) (e : Declared) → may_declare classes d ≡ true → (rest ≡ Some e → may_declare classes e ≡ true) → (if b then Some d else rest) ≡ Some e → may_declare classes e ≡ true
+found_if classes true d rest e h k i = let same : d ≡ e = cc in subst (λ (x : Declared). may_declare classes x ≡ true) same h
 found_if classes false d rest e h k i = k i
 
-found_declared : (classes : List Class) (names : List (ℕ × Declared)) (name : Name) (d : Declared) → AllDeclared classes names → declared_as names name ≡ Some d → is_declared_type classes d.kind ≡ true
+found_declared : (classes : List Class) (names : List (ℕ × Declared)) (name : Name) (d : Declared) → AllDeclared classes names → declared_as names name ≡ Some d → may_declare classes d ≡ true
 found_declared classes [] name d h i = absurd cc
 found_declared classes (e ∷ es) name d h i = found_if classes (nat_eq name.0 e.0) e.1 (declared_as es name) d h.0 (λ j. found_declared classes es name d h.1 j) i
 
-variable_if : (b : Bool) (d e : Declared) → (if b then None else Some d) ≡ Some e → Some d ≡ Some e
+variable_if : (b : Bool) (d e : Declared) → (if b then None else Some d) ≡ Some e → (Some d ≡ Some e) × (b ≡ false)
 variable_if true d e i = absurd cc
-variable_if false d e i = i
+variable_if false d e i = (i, refl)
 
-as_declared : (o : Option Declared) (d : Declared) → as_variable o ≡ Some d → o ≡ Some d
+no_block_is : (d e : Declared) → (Some d ≡ Some e) × (is_block d.declaration ≡ false) → is_block e.declaration ≡ false
+no_block_is d e h = let same : d ≡ e = let found = h.0 in cc in subst (λ (x : Declared). is_block x.declaration ≡ false) same h.1
+
+as_declared : (o : Option Declared) (d : Declared) → as_variable o ≡ Some d → (o ≡ Some d) × (is_block d.declaration ≡ false)
 as_declared None d i = absurd cc
-as_declared (Some e) d i = variable_if (is_block e.declaration) e d i
+as_declared (Some e) d i = let h = variable_if (is_block e.declaration) e d i in (h.0, no_block_is e d h)
+
+type_declared : (b t : Bool) → (b || t) ≡ true → b ≡ false → t ≡ true
+type_declared true t h k = absurd cc
+type_declared false t h k = h
 
 pub variable_declared : (tree : core.Program) (a : Around) (v : Visible) (name : Name) (d : Declared) → Sound tree a v → variable_named v name ≡ Some d → is_declared_type a.program.classes d.kind ≡ true
-variable_declared tree a v name d s i = found_declared a.program.classes v.names name d s.visible (as_declared (declared_as v.names name) d i)
+variable_declared tree a v name d s i =
+    let h = as_declared (declared_as v.names name) d i in
+    type_declared (is_block d.declaration) (is_declared_type a.program.classes d.kind) (found_declared a.program.classes v.names name d s.visible h.0) h.1
 
 -- Types
 
@@ -100,7 +123,7 @@ meets_need need Unsettled span h clean = absurd (h refl)
 meets_need need Untyped span h clean = absurd clean
 meets_need need (Typed type) span h clean = unless_holds (typing.accepts need type) rule.WrongType span clean
 
-pub typed_seen : (a : Around) (b : Bool) (type : PvType) (local : Bool) → b ≡ true → is_declared_type a.program.classes type ≡ true → SeenKept a (value_seen (typing.typed_if b type) local)
+pub typed_seen : (a : Around) (b : Bool) (type : PvType) (local : Bool) → b ≡ true → has_class a.program.classes type ≡ true → SeenKept a (value_seen (typing.typed_if b type) local)
 typed_seen a true type local h d = record { settled = λ i. cc; this = λ i. absurd cc; declared = d }
 typed_seen a false type local h d = absurd cc
 
@@ -135,7 +158,7 @@ old_seen a (Typed x) local h d = record { settled = λ i. cc; this = λ i. absur
 old_seen a Unsettled local h d = absurd cc
 old_seen a Untyped local h d = absurd cc
 
-element_if : (a : Around) (b : Bool) (type : PvType) (local : Bool) → b ≡ true → is_declared_type a.program.classes type ≡ true → SeenKept a (record { typing = typing.typed_if b type; this = false; location = true; local = local })
+element_if : (a : Around) (b : Bool) (type : PvType) (local : Bool) → b ≡ true → has_class a.program.classes type ≡ true → SeenKept a (record { typing = typing.typed_if b type; this = false; location = true; local = local })
 element_if a true type local h d = record { settled = λ i. cc; this = λ i. absurd cc; declared = d }
 element_if a false type local h d = absurd cc
 

@@ -62,11 +62,11 @@ has_run c = list_any is_run c.members
 abbrev pub has_lock_invariant : Class → Bool
 has_lock_invariant c = is_some c.lock_invariant
 
--- a type of a class needs the class
+-- a type that a declaration may have: that of a class needs the class, and that of `null` is no such type
 abbrev pub is_declared_type : List Class → PvType → Bool
 is_declared_type classes (Object name) = is_some (class_named classes name)
 is_declared_type classes Int = true
 is_declared_type classes Truth = true
 is_declared_type classes IntArray = true
 is_declared_type classes TruthArray = true
-is_declared_type classes Null = true
+is_declared_type classes Null = false

@@ -81,12 +81,13 @@ impl<'a> Around<'a> {
         self.table.class_named(name).is_some()
     }
 
-    /// Whether a type needs no class, or one that is declared.
+    /// Whether a declaration may have a type: one of a class needs the class, and `null` has none that is written.
     pub(crate) fn is_type(&self, kind: PvType) -> bool
         ensures { result ≡ lookup.is_declared_type (around_of self.now).program.classes kind }
     {
         match kind {
             PvType::Object(name) => self.is_class(name),
+            PvType::Null => false,
             _ => true,
         }
     }
