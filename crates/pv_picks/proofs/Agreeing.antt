@@ -22,7 +22,7 @@ pub record Agree (v head : Visible) : Type 0 where
 
 -- Look-ups with one more name
 
-abbrev or_else : Option Declared → Option Declared → Option Declared
+abbrev pub or_else : Option Declared → Option Declared → Option Declared
 or_else None y = y
 or_else (Some x) y = Some x
 
@@ -30,7 +30,7 @@ else_if : (b : Bool) (d : Declared) (x y z : Option Declared) → z ≡ or_else 
 else_if true d x y z h = refl
 else_if false d x y z h = h
 
-declared_more : (names : List (ℕ × Declared)) (e : ℕ × Declared) (n : Name) → declared_as (names ++ e ∷ []) n ≡ or_else (declared_as names n) (declared_as (e ∷ []) n)
+pub declared_more : (names : List (ℕ × Declared)) (e : ℕ × Declared) (n : Name) → declared_as (names ++ e ∷ []) n ≡ or_else (declared_as names n) (declared_as (e ∷ []) n)
 declared_more [] e n = refl
 declared_more (x ∷ xs) e n = else_if (nat_eq n.0 x.0) x.1 (declared_as xs n) (declared_as (e ∷ []) n) (declared_as (xs ++ e ∷ []) n) (declared_more xs e n)
 

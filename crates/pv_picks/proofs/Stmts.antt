@@ -127,10 +127,10 @@ sound_block : (tree : core.Program) (a : Around) (v : Visible) (o : Option Word)
 sound_block tree a v None s = s
 sound_block tree a v (Some w) s = sound_with tree a v Block w.name Null refl s
 
-sound_for : (tree : core.Program) (a : Around) (v : Visible) (range : Range) → Sound tree a v → Sound tree a (inside_for v range)
+pub sound_for : (tree : core.Program) (a : Around) (v : Visible) (range : Range) → Sound tree a v → Sound tree a (inside_for v range)
 sound_for tree a v range s = sound_with tree a (entered v) LoopVariable range.name.name Int refl (sound_entered tree a v s)
 
-sound_par : (tree : core.Program) (a : Around) (v : Visible) (o : Option Word) (range : Range) → Sound tree a v → Sound tree a (inside_par v o range)
+pub sound_par : (tree : core.Program) (a : Around) (v : Visible) (o : Option Word) (range : Range) → Sound tree a v → Sound tree a (inside_par v o range)
 sound_par tree a v o range s = sound_with tree a (with_block (entered v) o) LoopVariable range.name.name Int refl (sound_block tree a (entered v) o (sound_entered tree a v s))
 
 looped_for : (b : Bool) → (b || true) ≡ true

@@ -1,70 +1,29 @@
 -- Programs in which no name of a class or of a member is unresolved: each that is used is declared, and used as it is declared.
-use Rattle.std.specs.Prelude.{ℕ, ◌≡◌, Bool, false, Option, Some, None, is_some, is_none, option_map, IsTrue, IsSome, List, [], length, filter_map}
-use Rattle.std.specs.List.{list_any, AllByRecursion}
+use Rattle.std.specs.Prelude.{ℕ, ◌≡◌, Bool, Option, Some, None, is_some, option_map, IsTrue, IsSome, List, length}
+use Rattle.std.specs.List.{AllByRecursion}
 use Rattle.pv_base.specs.declared.Name.{Name}
-use Rattle.pv_ast.specs.declared.PvType.{PvType}
 use Rattle.pv_ast.specs.declared.Token.{Token}
 use Rattle.pv_ast.specs.declared.Token.TheVariants as token
-use Rattle.pv_rules.specs.Lookup.{named}
-use Rattle.pv_meaning.specs.Core.{Program, Class, Member, Parameter, Predicate, Method, Contract, Shared, Team, Message, Action, Target, Right, Expression, Cut, Formula, Items, Item, Statement, Block}
+use Rattle.pv_meaning.specs.Core.{Program, Class, Member, Contract, Shared, Team, Message, Action, Target, Right, Expression, Cut, Formula, Items, Item, Statement, Block}
 use Rattle.pv_meaning.specs.Core as core
+use Rattle.pv_meaning.specs.Members.{class_named, predicate_named, method_named, run_of, invariant_of}
+pub use Rattle.pv_meaning.specs.Members.{field_type}
 
--- Look-ups. Where two of a kind have one name, the first counts.
-
-abbrev pub class_in : Program → Name → Option Class
-class_in = named (λ c. c.name)
-
-abbrev pub members_in : Option Class → List Member
-members_in None = []
-members_in (Some c) = c.members
-
-abbrev pub as_field : Member → Option Parameter
-as_field (core.IsField f) = Some f
-as_field _ = None
-
-abbrev pub as_predicate : Member → Option Predicate
-as_predicate (core.IsPredicate q) = Some q
-as_predicate _ = None
-
--- a method and its name
-abbrev pub with_name : Method → Option Name → Option (Name × Method)
-with_name m None = None
-with_name m (Some name) = Some (name, m)
-
-abbrev pub as_method : Member → Option (Name × Method)
-as_method (core.IsMethod m) = with_name m m.name
-as_method _ = None
-
-abbrev pub is_run : Member → Bool
-is_run (core.IsMethod m) = is_none m.name
-is_run _ = false
-
--- the declared type of a field of a class
-abbrev pub field_type : Program → Name → Name → Option PvType
-field_type p class field = option_map (λ f. f.1) (named (λ f. f.0) (filter_map as_field (members_in (class_in p class))) field)
+-- Look-ups
 
 -- how many parameters a predicate has, and a method
 abbrev pub predicate_arity : Program → Name → Name → Option ℕ
-predicate_arity p class name =
-    option_map (λ q. length q.parameters) (named (λ q. q.name) (filter_map as_predicate (members_in (class_in p class))) name)
+predicate_arity p class name = option_map (λ q. length q.parameters) (predicate_named p class name)
 
 abbrev pub method_arity : Program → Name → Name → Option ℕ
-method_arity p class name =
-    option_map (λ m. length m.1.parameters) (named (λ m. m.0) (filter_map as_method (members_in (class_in p class))) name)
-
-abbrev pub class_runs : Option Class → Bool
-class_runs c = list_any is_run (members_in c)
-
-abbrev pub class_locks : Option Class → Bool
-class_locks None = false
-class_locks (Some c) = is_some c.lock_invariant
+method_arity p class name = option_map (λ m. length m.parameters) (method_named p class name)
 
 -- a class has what the token speaks of: a `run` for threads, a lock invariant for locks
 abbrev pub has_role : Program → Token → Name → Bool
-has_role p token.Idle class = class_runs (class_in p class)
-has_role p token.Running class = class_runs (class_in p class)
-has_role p token.Committed class = class_locks (class_in p class)
-has_role p token.Uncommitted class = class_locks (class_in p class)
+has_role p token.Idle class = is_some (run_of p class)
+has_role p token.Running class = is_some (run_of p class)
+has_role p token.Committed class = is_some (invariant_of p class)
+has_role p token.Uncommitted class = is_some (invariant_of p class)
 
 -- the token of what an action is done with
 abbrev pub token_of : Action → Token
@@ -151,7 +110,7 @@ ResolvedTarget p (core.ToElement type e i span) = Resolved p e × Resolved p i
 abbrev pub ResolvedRight : Program → Right → Type 0
 ResolvedRight p (core.Value' e) = Resolved p e
 ResolvedRight p (core.Call class name e args) = ResolvedUse p (method_arity p class name) e args
-ResolvedRight p (core.NewObject class) = IsSome (class_in p class)
+ResolvedRight p (core.NewObject class) = IsSome (class_named p class)
 ResolvedRight p (core.NewArray type e) = Resolved p e
 
 abbrev pub ResolvedOption : Program → Option Expression → Type 0
