@@ -1,5 +1,5 @@
 -- A statement without a fault becomes a resolved one, wherever it stands.
-use Rattle.std.proofs.Common.{◌≡◌, ℕ, ◌+◌, Bool, true, false, not, ◌||◌, Option, Some, None, List, [], ◌∷◌, ◌++◌, map, refl, sym, subst}
+use Rattle.std.proofs.Common.{◌≡◌, ℕ, ◌+◌, Bool, true, false, not, ◌||◌, Option, Some, None, List, [], ◌∷◌, ◌++◌, map, refl, sym, subst, arith}
 use Rattle.std.proofs.lemmas.Bool.{both_ways}
 use Rattle.std.specs.Prelude.{if◌then◌else◌}
 use Rattle.std.specs.List.{AllByRecursion}
@@ -26,8 +26,8 @@ use Rattle.pv_rules.specs.Statements.{StmtPart, StmtKindPart, part_in_stmt_kind,
 use Rattle.pv_meaning.specs.Core.{Message, Statement}
 use Rattle.pv_meaning.specs.Core as core
 use Rattle.pv_picks.specs.Pieces.{core_of_expression, core_of_formula}
-use Rattle.pv_picks.specs.Statements.{StmtPiece, StmtKindPiece, Site, at, block_from, sent_in, message_of, inside_for, inside_par, in_for, in_par, piece_in_stmt_kind, piece_in_stmt, piece_of_stmt, piece_of_stmt_kind, core_of_action}
-use Rattle.pv_picks.specs.Resolved.{token_of, ResolvedFormula, ResolvedStatement, ResolvedBlock}
+use Rattle.pv_picks.specs.Statements.{StmtPiece, StmtKindPiece, Site, at, block_from, sent_in, message_of, inside_for, inside_par, in_for, in_par, piece_in_stmt_kind, piece_in_stmt, piece_of_stmt, piece_of_stmt_kind, core_of_action, once, assigned_in}
+use Rattle.pv_picks.specs.Resolved.{token_of, behind, ResolvedFormula, ResolvedStatement, ResolvedBlock}
 use Rattle.pv_picks.proofs.Clean.{Clean, unless_holds, if_fails}
 use Rattle.pv_picks.proofs.Sound.{Sound, sound_with}
 use Rattle.pv_picks.proofs.Agreeing.{Agree, agree_local, agree_head}
@@ -35,34 +35,38 @@ use Rattle.pv_picks.proofs.Heads.{at_head}
 use Rattle.pv_picks.proofs.Keeping.{target_kept}
 use Rattle.pv_picks.proofs.StmtLayers.{layer_of, kind_at_roll, stmt_at_roll}
 use Rattle.pv_picks.proofs.Uses.{kept, formulas_kept, shared_kept, use_kept, call_kept, right_kept, first_value_kept, returned_kept, operand_kept}
+use Rattle.pv_picks.proofs.Knowing.{Knows, knows_all, knows_declared, knows_local, knows_block, knows_entered, knows_behind, variables_known}
 
 -- The laws of a statement
 
-abbrev pub AllMessages : core.Program → List Message → Type 0
-AllMessages tree ms = AllByRecursion (λ m. ResolvedFormula tree m.formula) ms
+abbrev pub AllMessages : core.Program → List Name → List Message → Type 0
+AllMessages tree head ms = AllByRecursion (λ m. ResolvedFormula tree head m.formula) ms
 
 -- in a counted loop's body: the scope agrees with that at its head, where the messages that the body sends are resolved
-pub record InLoop (tree : core.Program) (a : Around) (v head : Visible) (messages : List Message) : Type 0 where
-  pub agree : Agree v head
-  pub sound : Sound tree a head
-  pub told : AllMessages tree messages
+pub record InLoop (tree : core.Program) (head : List Name) (a : Around) (v there : Visible) (messages : List Message) : Type 0 where
+  pub agree : Agree v there
+  pub sound : Sound tree a there
+  pub known : Knows false there head
+  pub told : AllMessages tree head messages
 
-abbrev pub AtSite : core.Program → Around → Visible → Spot → Site → Type 0
-AtSite tree a v spot site = is_loop spot.surround ≡ true → InLoop tree a v site.head site.messages
+abbrev pub AtSite : core.Program → List Name → Around → Visible → Spot → Site → Type 0
+AtSite tree head a v spot site = is_loop spot.surround ≡ true → InLoop tree head a v site.head site.messages
 
--- what a statement without a fault gives: it becomes resolved; behind it the names in scope are sound still, and agree with those at
--- the head; and the messages that it sends are resolved there
-pub record Done (tree : core.Program) (a : Around) (v : Visible) (spot : Spot) (statement_at : Site → Statement) (behind : Visible) (sent_at : Visible → List Message) : Type 0 where
-  pub statement : (site : Site) → AtSite tree a v spot site → ResolvedStatement tree (statement_at site)
-  pub sound : Sound tree a behind
-  pub agree : (head : Visible) → Agree v head → Agree behind head
-  pub sent : (head : Visible) → spot.looped ≡ true → Agree v head → Sound tree a head → AllMessages tree (sent_at head)
+-- what a statement without a fault gives: it becomes resolved; behind it the names in scope are sound still, and known, also those
+-- at the head, with which they agree; and the messages that it sends are resolved there
+pub record Done (tree : core.Program) (a : Around) (v : Visible) (spot : Spot) (statement_at : Site → Statement) (after : Visible) (sent_at : Visible → List Message) : Type 0 where
+  pub statement : (head names : List Name) (site : Site) → Knows true v names → Knows false v head → AtSite tree head a v spot site → ResolvedStatement tree head names (statement_at site)
+  pub sound : Sound tree a after
+  pub known : (names : List Name) (site : Site) → Knows true v names → Knows true after (behind names (statement_at site))
+  pub shared : (head : List Name) → Knows false v head → Knows false after head
+  pub agree : (there : Visible) → Agree v there → Agree after there
+  pub sent : (head : List Name) (there : Visible) → spot.looped ≡ true → Agree v there → Sound tree a there → Knows false there head → AllMessages tree head (sent_at there)
 
 abbrev pub KindLaw : StmtKindPiece → Type 0
-KindLaw k = (tree : core.Program) (a : Around) (v : Visible) (spot : Spot) (span : Span) → Sound tree a v → Clean (k.part.faults span a v spot) → Done tree a v spot (λ site. k.statement span a v site) (k.part.behind v) (λ head. k.sent a head)
+KindLaw k = (tree : core.Program) (a : Around) (v : Visible) (spot : Spot) (span : Span) → Sound tree a v → Clean (k.part.faults span a v spot) → Done tree a v spot (λ site. k.statement span a v site) (k.part.behind v) (λ there. k.sent a there)
 
 abbrev pub StmtLaw : StmtPiece → Type 0
-StmtLaw s = (tree : core.Program) (a : Around) (v : Visible) (spot : Spot) → Sound tree a v → Clean (s.part.faults a v spot) → Done tree a v spot (λ site. s.statement a v site) (s.part.behind v) (λ head. s.sent a head)
+StmtLaw s = (tree : core.Program) (a : Around) (v : Visible) (spot : Spot) → Sound tree a v → Clean (s.part.faults a v spot) → Done tree a v spot (λ site. s.statement a v site) (s.part.behind v) (λ there. s.sent a there)
 
 abbrev pub AllLaws : List StmtPiece → Type 0
 AllLaws ss = AllByRecursion StmtLaw ss
@@ -71,41 +75,53 @@ abbrev parts_in : List StmtPiece → List StmtPart
 parts_in ss = map (λ s. s.part) ss
 
 -- a statement that sends nothing and declares nothing
-still : (tree : core.Program) (a : Around) (v : Visible) (spot : Spot) (statement_at : Site → Statement) → Sound tree a v → ((site : Site) → AtSite tree a v spot site → ResolvedStatement tree (statement_at site)) → Done tree a v spot statement_at v (λ head. [])
-still tree a v spot statement_at sound h = record { statement = h; sound = sound; agree = λ head x. x; sent = λ head looped agree there. tt }
+still : (tree : core.Program) (a : Around) (v : Visible) (spot : Spot) (statement_at : Site → Statement) → Sound tree a v
+    → ((head names : List Name) (site : Site) → Knows true v names → Knows false v head → AtSite tree head a v spot site → ResolvedStatement tree head names (statement_at site)) → Done tree a v spot statement_at v (λ there. [])
+still tree a v spot statement_at sound h = record {
+  statement = h;
+  sound = sound;
+  known = λ names site known. knows_behind true v names (statement_at site) known;
+  shared = λ head shared. shared;
+  agree = λ there x. x;
+  sent = λ head there looped agree s known. tt;
+}
 
 -- Blocks
 
 -- further on in a block
-behind_site : (tree : core.Program) (a : Around) (v v' : Visible) (spot : Spot) (site : Site) → ((head : Visible) → Agree v head → Agree v' head) → AtSite tree a v spot site → AtSite tree a v' spot site
-behind_site tree a v v' spot site agree h = λ loop. let k = h loop in record { agree = agree site.head k.agree; sound = k.sound; told = k.told }
+behind_site : (tree : core.Program) (head : List Name) (a : Around) (v after : Visible) (spot : Spot) (site : Site) → ((there : Visible) → Agree v there → Agree after there) → AtSite tree head a v spot site → AtSite tree head a after spot site
+behind_site tree head a v after spot site agree h = λ loop. let k = h loop in record { agree = agree site.head k.agree; sound = k.sound; known = k.known; told = k.told }
 
-pub block_kept : (ss : List StmtPiece) → AllLaws ss → (n : ℕ) (tree : core.Program) (a : Around) (v : Visible) (spot : Spot) (site : Site) → Sound tree a v → Clean (faults_of_statements (parts_in ss) a v spot) → AtSite tree a v spot site → ResolvedBlock tree (block_from n ss a v site)
-block_kept [] laws n tree a v spot site sound clean here = tt
-block_kept (s ∷ ss) laws n tree a v spot site sound clean here =
+pub block_kept : (ss : List StmtPiece) → AllLaws ss → (n : ℕ) (tree : core.Program) (head names : List Name) (a : Around) (v : Visible) (spot : Spot) (site : Site) → Sound tree a v → Knows true v names → Knows false v head
+    → Clean (faults_of_statements (parts_in ss) a v spot) → AtSite tree head a v spot site → ResolvedBlock tree head names (block_from n ss a v site)
+block_kept [] laws n tree head names a v spot site sound known shared clean here = tt
+block_kept (s ∷ ss) laws n tree head names a v spot site sound known shared clean here =
+    let h = laws.0 tree a v spot sound clean.0 in (
+      h.statement head names (at n site) known shared here,
+      block_kept ss laws.1 (n + 1) tree head (behind names (s.statement a v (at n site))) a (s.part.behind v) spot site h.sound (h.known names (at n site) known) (h.shared head shared) clean.1 (behind_site tree head a v (s.part.behind v) spot site h.agree here),
+    )
+
+messages_append : (tree : core.Program) (head : List Name) (ms ns : List Message) → AllMessages tree head ms → AllMessages tree head ns → AllMessages tree head (ms ++ ns)
+messages_append tree head [] ns h k = k
+messages_append tree head (m ∷ ms) ns h k = (h.0, messages_append tree head ms ns h.1 k)
+
+sent_kept : (ss : List StmtPiece) → AllLaws ss → (tree : core.Program) (head : List Name) (a : Around) (v there : Visible) (spot : Spot) → Sound tree a v → Clean (faults_of_statements (parts_in ss) a v spot) → spot.looped ≡ true
+    → Agree v there → Sound tree a there → Knows false there head → AllMessages tree head (sent_in ss a there)
+sent_kept [] laws tree head a v there spot sound clean looped agree s known = tt
+sent_kept (p ∷ ps) laws tree head a v there spot sound clean looped agree s known =
     let h = laws.0 tree a v spot sound clean.0 in
-    (h.statement (at n site) here, block_kept ss laws.1 (n + 1) tree a (s.part.behind v) spot site h.sound clean.1 (behind_site tree a v (s.part.behind v) spot site h.agree here))
-
-messages_append : (tree : core.Program) (ms ns : List Message) → AllMessages tree ms → AllMessages tree ns → AllMessages tree (ms ++ ns)
-messages_append tree [] ns h k = k
-messages_append tree (m ∷ ms) ns h k = (h.0, messages_append tree ms ns h.1 k)
-
-sent_kept : (ss : List StmtPiece) → AllLaws ss → (tree : core.Program) (a : Around) (v head : Visible) (spot : Spot) → Sound tree a v → Clean (faults_of_statements (parts_in ss) a v spot) → spot.looped ≡ true → Agree v head → Sound tree a head → AllMessages tree (sent_in ss a head)
-sent_kept [] laws tree a v head spot sound clean looped agree there = tt
-sent_kept (s ∷ ss) laws tree a v head spot sound clean looped agree there =
-    let h = laws.0 tree a v spot sound clean.0 in
-    messages_append tree (s.sent a head) (sent_in ss a head) (h.sent head looped agree there)
-    (sent_kept ss laws.1 tree a (s.part.behind v) head spot h.sound clean.1 looped (h.agree head agree) there)
+    messages_append tree head (p.sent a there) (sent_in ps a there) (h.sent head there looped agree s known)
+    (sent_kept ps laws.1 tree head a (p.part.behind v) there spot h.sound clean.1 looped (h.agree there agree) s known)
 
 -- Messages
 
-message_if : (tree : core.Program) (b : Bool) (m n : Message) → ResolvedFormula tree m.formula → ResolvedFormula tree n.formula → ResolvedFormula tree (if b then m else n).formula
-message_if tree true m n h k = h
-message_if tree false m n h k = k
+message_if : (tree : core.Program) (head : List Name) (b : Bool) (m n : Message) → ResolvedFormula tree head m.formula → ResolvedFormula tree head n.formula → ResolvedFormula tree head (if b then m else n).formula
+message_if tree head true m n h k = h
+message_if tree head false m n h k = k
 
-received_kept : (tree : core.Program) (ms : List Message) (label : Name) → AllMessages tree ms → ResolvedFormula tree (message_of ms label).formula
-received_kept tree [] label h = tt
-received_kept tree (m ∷ ms) label h = message_if tree (same_name label m.label) m (message_of ms label) h.0 (received_kept tree ms label h.1)
+received_kept : (tree : core.Program) (head : List Name) (ms : List Message) (label : Name) → AllMessages tree head ms → ResolvedFormula tree head (message_of ms label).formula
+received_kept tree head [] label h = tt
+received_kept tree head (m ∷ ms) label h = message_if tree head (same_name label m.label) m (message_of ms label) h.0 (received_kept tree head ms label h.1)
 
 loop_from : (a b : Bool) → (not a || b) ≡ false → a ≡ true
 loop_from true b h = refl
@@ -115,13 +131,13 @@ loop_place : (spot : Spot) (span : Span) → Clean (faults_of_message_place spot
 loop_place spot span clean = loop_from (is_loop spot.surround) spot.repeated (if_fails (not (is_loop spot.surround) || spot.repeated) rule.MessagePlace span clean)
 
 -- a message at the head of the body
-message_kept : (tree : core.Program) (a : Around) (v head : Visible) (e : Expr) → Agree v head → Sound tree a head → Clean ((part_of e).faults a v between_members (Exactly Truth)) → ResolvedFormula tree (core_of_formula a head e)
-message_kept tree a v head e agree sound clean = (kept e tree a head between_members (Exactly Truth) sound (at_head e a v head between_members (Exactly Truth) agree refl clean).1).1.formula None
+message_kept : (tree : core.Program) (head : List Name) (a : Around) (v there : Visible) (e : Expr) → Agree v there → Sound tree a there → Knows false there head → Clean ((part_of e).faults a v between_members (Exactly Truth)) → ResolvedFormula tree head (core_of_formula a there e)
+message_kept tree head a v there e agree sound known clean = (kept e tree head a there between_members (Exactly Truth) sound known (at_head e a v there between_members (Exactly Truth) agree refl clean).1).1.formula None
 
 -- Scopes of par blocks and counted loops
 
 sound_entered : (tree : core.Program) (a : Around) (v : Visible) → Sound tree a v → Sound tree a (entered v)
-sound_entered tree a v s = record { mirrors = s.mirrors; here = s.here; own = s.own; fields = s.fields; result = s.result; visible = s.visible }
+sound_entered tree a v s = record { mirrors = s.mirrors; here = s.here; own = s.own; fields = s.fields; result = s.result; visible = s.visible; within = omega arith }
 
 sound_block : (tree : core.Program) (a : Around) (v : Visible) (o : Option Word) → Sound tree a v → Sound tree a (with_block v o)
 sound_block tree a v None s = s
@@ -132,6 +148,12 @@ sound_for tree a v range s = sound_with tree a (entered v) LoopVariable range.na
 
 sound_par : (tree : core.Program) (a : Around) (v : Visible) (o : Option Word) (range : Range) → Sound tree a v → Sound tree a (inside_par v o range)
 sound_par tree a v o range s = sound_with tree a (with_block (entered v) o) LoopVariable range.name.name Int refl (sound_block tree a (entered v) o (sound_entered tree a v s))
+
+known_for : (v : Visible) (range : Range) (names : List Name) → Knows true v names → Knows true (inside_for v range) (range.name.name ∷ names)
+known_for v range names known = knows_declared true (entered v) LoopVariable range.name.name Int names (knows_entered v names known)
+
+known_par : (v : Visible) (o : Option Word) (range : Range) (names : List Name) → Knows true v names → Knows true (inside_par v o range) (range.name.name ∷ names)
+known_par v o range names known = knows_declared true (with_block (entered v) o) LoopVariable range.name.name Int names (knows_block (entered v) o names (knows_entered v names known))
 
 looped_for : (b : Bool) → (b || true) ≡ true
 looped_for true = refl
@@ -145,12 +167,15 @@ for_law range c body laws = λ tree a v spot span sound clean.
     let there : Sound tree a inside = sound_for tree a v range sound in
     let inner : Spot = among_members surround.Loop spot in
     let agree : Agree inside inside = agree_head v LoopVariable range.name.name Int refl (if_fails (is_visible (entered v) range.name.name) rule.Shadows range.name.span clean.1.1.0) in
-    let low = (kept range.low tree a v in_statement (Exactly Int) sound clean.1.0.0).1.expression in
-    let high = (kept range.high tree a v in_statement (Exactly Int) sound clean.1.0.1).1.expression in
-    let sent : AllMessages tree (sent_in body a inside) = sent_kept body laws tree a inside inside inner there clean.1.1.1.0.1 (looped_for spot.looped) agree there in
-    still tree a v spot _ sound (λ site here. (
-      (low, high, shared_kept tree range.name.name a inside in_condition in_condition c there clean.1.1.1.0.0),
-      block_kept body laws 0 tree a inside inner (in_for a inside body (at 0 site)) there clean.1.1.1.0.1 (λ loop. record { agree = agree; sound = there; told = sent }),
+    still tree a v spot _ sound (λ head names site known shared here.
+    let low = (kept range.low tree names a v in_statement (Exactly Int) sound known clean.1.0.0).1.expression in
+    let high = (kept range.high tree names a v in_statement (Exactly Int) sound known clean.1.0.1).1.expression in
+    let first : List Name = range.name.name ∷ names in
+    let all : Knows true inside first = known_for v range names known in
+    let some : Knows false inside first = knows_all false inside first all in
+    let sent : AllMessages tree first (sent_in body a inside) = sent_kept body laws tree first a inside inside inner there clean.1.1.1.0.1 (looped_for spot.looped) agree there some in (
+      (low, high, shared_kept tree first range.name.name a inside in_condition in_condition c there all all clean.1.1.1.0.0),
+      block_kept body laws 0 tree first first a inside inner (in_for a inside body (at 0 site)) there all some clean.1.1.1.0.1 (λ loop. record { agree = agree; sound = there; known = some; told = sent }),
     ))
 
 par_law : (o : Option Word) (range : Range) (c : Contract) (body : List StmtPiece) → AllLaws body → KindLaw (piece_in_stmt_kind (StmtKind-F.Par o range c body))
@@ -158,20 +183,25 @@ par_law o range c body laws = λ tree a v spot span sound clean.
     let inside : Visible = inside_par v o range in
     let there : Sound tree a inside = sound_par tree a v o range sound in
     let inner : Spot = among_members surround.Block spot in
-    let low = (kept range.low tree a v in_statement (Exactly Int) sound clean.1.0.0).1.expression in
-    let high = (kept range.high tree a v in_statement (Exactly Int) sound clean.1.0.1).1.expression in
     record {
-      statement = λ site here. (
-        (low, high, shared_kept tree range.name.name a inside in_condition in_condition c there clean.1.1.1.1.0),
-        block_kept body laws 0 tree a inside inner (in_par range (at 0 site)) there clean.1.1.1.1.1 (λ loop. absurd (let no : false ≡ true = loop in cc)),
-      );
+      statement = λ head names site known shared here.
+          let low = (kept range.low tree names a v in_statement (Exactly Int) sound known clean.1.0.0).1.expression in
+          let high = (kept range.high tree names a v in_statement (Exactly Int) sound known clean.1.0.1).1.expression in
+          let first : List Name = range.name.name ∷ names in
+          let all : Knows true inside first = known_par v o range names known in
+          let some : Knows false inside first = knows_all false inside first all in (
+            (low, high, shared_kept tree first range.name.name a inside in_condition in_condition c there all all clean.1.1.1.1.0),
+            block_kept body laws 0 tree first first a inside inner (in_par range (at 0 site)) there all some clean.1.1.1.1.1 (λ loop. absurd (let no : false ≡ true = loop in cc)),
+          );
       sound = sound;
-      agree = λ head x. x;
-      sent = λ head looped agree s. let never : spot.looped ≡ false = if_fails spot.looped rule.BodyForm span clean.0 in absurd (both_ways spot.looped never looped);
+      known = λ names site known. known;
+      shared = λ head shared. shared;
+      agree = λ there x. x;
+      sent = λ head there looped agree s known. let never : spot.looped ≡ false = if_fails spot.looped rule.BodyForm span clean.0 in absurd (both_ways spot.looped never looped);
     }
 
-action_law : (tree : core.Program) (a : Around) (v : Visible) (spot : Spot) (action : core.Action) (span : Span) (e : Expr) → Sound tree a v → Clean (statements.faults_of_operand (rules.has_role (token_of action)) a v e) → Done tree a v spot (λ site. core_of_action action span a v e) v (λ head. [])
-action_law tree a v spot action span e sound clean = still tree a v spot (λ site. core_of_action action span a v e) sound (λ site here. operand_kept tree a v (token_of action) e sound clean)
+action_law : (tree : core.Program) (a : Around) (v : Visible) (spot : Spot) (action : core.Action) (span : Span) (e : Expr) → Sound tree a v → Clean (statements.faults_of_operand (rules.has_role (token_of action)) a v e) → Done tree a v spot (λ site. core_of_action action span a v e) v (λ there. [])
+action_law tree a v spot action span e sound clean = still tree a v spot (λ site. core_of_action action span a v e) sound (λ head names site known shared here. operand_kept tree names a v (token_of action) e sound known clean)
 
 abbrev Kinds : Type 0
 Kinds = (k : StmtKind) × KindLaw (piece_of_stmt_kind k)
@@ -191,28 +221,33 @@ pieces ss = map piece_of_stmt (map (λ e. e.0) ss)
 
 if_law : (e : Expr) (first second : List StmtPiece) → AllLaws first → AllLaws second → KindLaw (piece_in_stmt_kind (StmtKind-F.If e first second))
 if_law e first second law_first law_second = λ tree a v spot span sound clean. record {
-  statement = λ site here. (
-    (kept e tree a v in_statement (Exactly Truth) sound clean.0).1.expression,
-    block_kept first law_first 0 tree a v (in_branch spot) (at 0 site) sound clean.1.0 here,
-    block_kept second law_second 0 tree a v (in_branch spot) (at 1 site) sound clean.1.1 here,
+  statement = λ head names site known shared here. (
+    (kept e tree names a v in_statement (Exactly Truth) sound known clean.0).1.expression,
+    block_kept first law_first 0 tree head names a v (in_branch spot) (at 0 site) sound known shared clean.1.0 here,
+    block_kept second law_second 0 tree head names a v (in_branch spot) (at 1 site) sound known shared clean.1.1 here,
   );
   sound = sound;
-  agree = λ head x. x;
-  sent = λ head looped agree s.
-      messages_append tree (sent_in first a head) (sent_in second a head)
-      (sent_kept first law_first tree a v head (in_branch spot) sound clean.1.0 looped agree s) (sent_kept second law_second tree a v head (in_branch spot) sound clean.1.1 looped agree s);
+  known = λ names site known. known;
+  shared = λ head shared. shared;
+  agree = λ there x. x;
+  sent = λ head there looped agree s known.
+      messages_append tree head (sent_in first a there) (sent_in second a there)
+      (sent_kept first law_first tree head a v there (in_branch spot) sound clean.1.0 looped agree s known) (sent_kept second law_second tree head a v there (in_branch spot) sound clean.1.1 looped agree s known);
 }
 
 while_law : (es : List Expr) (e : Expr) (body : List StmtPiece) → AllLaws body → KindLaw (piece_in_stmt_kind (StmtKind-F.While es e body))
 while_law es e body laws = λ tree a v spot span sound clean. record {
-  statement = λ site here. (
-    formulas_kept tree a v (in_invariant spot) es sound clean.0,
-    (kept e tree a v in_statement (Exactly Truth) sound clean.1.0).1.expression,
-    block_kept body laws 0 tree a v (in_while spot) (at 0 site) sound clean.1.1 here,
+  statement = λ head names site known shared here. (
+    variables_known v names (once (assigned_in body)) known,
+    formulas_kept tree names a v (in_invariant spot) es sound known clean.0,
+    (kept e tree names a v in_statement (Exactly Truth) sound known clean.1.0).1.expression,
+    block_kept body laws 0 tree head names a v (in_while spot) (at 0 site) sound known shared clean.1.1 here,
   );
   sound = sound;
-  agree = λ head x. x;
-  sent = λ head looped agree s. sent_kept body laws tree a v head (in_while spot) sound clean.1.1 looped agree s;
+  known = λ names site known. known;
+  shared = λ head shared. shared;
+  agree = λ there x. x;
+  sent = λ head there looped agree s known. sent_kept body laws tree head a v there (in_while spot) sound clean.1.1 looped agree s known;
 }
 
 layer_law : (y : StmtKind-F Kinds Stmts) → KindLaw (piece_in_stmt_kind (layer_of (without y)))
@@ -220,44 +255,48 @@ layer_law (StmtKind-F.Local type w value) = λ tree a v spot span sound clean.
     let declared : is_declared_type a.program.classes type.kind ≡ true = unless_holds (is_declared_type a.program.classes type.kind) rule.UnknownName type.span clean.0 in
     let new : is_visible v w.name ≡ false = if_fails (is_visible v w.name) rule.Shadows w.span clean.1.0 in
     record {
-      statement = λ site here. (tt, first_value_kept tree a v type.kind value sound clean.1.1.0);
+      statement = λ head names site known shared here. (tt, first_value_kept tree names a v type.kind value sound known clean.1.1.0);
       sound = sound_with tree a v Local w.name type.kind declared sound;
-      agree = λ head x. agree_local v head w.name type.kind new x;
-      sent = λ head looped agree s. tt;
+      known = λ names site known. knows_declared true v Local w.name type.kind names known;
+      shared = λ head shared. knows_local v w.name type.kind head sound.within shared;
+      agree = λ there x. agree_local v there w.name type.kind new x;
+      sent = λ head there looped agree s known. tt;
     }
 layer_law (StmtKind-F.Assign place value) = λ tree a v spot span sound clean.
-    still tree a v spot _ sound (λ site here. (
-      target_kept tree (core_of_expression a v place) (kept place tree a v in_statement Anything sound clean.0).1.expression,
-      right_kept tree a v (need_like (typing_in (part_of place) a v)) value sound clean.1.1.0,
+    still tree a v spot _ sound (λ head names site known shared here. (
+      target_kept tree names (core_of_expression a v place) (kept place tree names a v in_statement Anything sound known clean.0).1.expression,
+      right_kept tree names a v (need_like (typing_in (part_of place) a v)) value sound known clean.1.1.0,
     ))
 layer_law (StmtKind-F.Call target w args) = λ tree a v spot span sound clean.
-    still tree a v spot _ sound (λ site here. (tt, call_kept tree a v in_statement target w args sound clean.1))
+    still tree a v spot _ sound (λ head names site known shared here. (tt, call_kept tree names a v in_statement target w args sound known clean.1))
 layer_law (StmtKind-F.If e first second) = if_law e (pieces first) (pieces second) (all_laws first) (all_laws second)
 layer_law (StmtKind-F.While es e body) = while_law es e (pieces body) (all_laws body)
 layer_law (StmtKind-F.For range c body) = for_law range c (pieces body) (all_laws body)
 layer_law (StmtKind-F.Par o range c body) = par_law o range c (pieces body) (all_laws body)
 layer_law (StmtKind-F.Barrier w c) = λ tree a v spot span sound clean.
-    still tree a v spot _ sound (λ site here. shared_kept tree site.position a v between_members between_members c sound clean.1)
+    still tree a v spot _ sound (λ head names site known shared here. shared_kept tree head site.position a v between_members between_members c sound shared shared clean.1)
 layer_law (StmtKind-F.Fork e) = λ tree a v spot span sound clean. action_law tree a v spot core.Fork span e sound clean.1
 layer_law (StmtKind-F.Join e) = λ tree a v spot span sound clean. action_law tree a v spot core.Join' span e sound clean.1
 layer_law (StmtKind-F.Lock e) = λ tree a v spot span sound clean. action_law tree a v spot core.Lock span e sound clean.1
 layer_law (StmtKind-F.Unlock e) = λ tree a v spot span sound clean. action_law tree a v spot core.Unlock span e sound clean.1
 layer_law (StmtKind-F.Commit e) = λ tree a v spot span sound clean. action_law tree a v spot core.Commit span e sound clean.1
 layer_law (StmtKind-F.Fold target w args) = λ tree a v spot span sound clean.
-    still tree a v spot _ sound (λ site here. use_kept tree a v in_statement target w args sound clean)
+    still tree a v spot _ sound (λ head names site known shared here. use_kept tree names a v in_statement target w args sound known clean)
 layer_law (StmtKind-F.Unfold target w args) = λ tree a v spot span sound clean.
-    still tree a v spot _ sound (λ site here. use_kept tree a v in_statement target w args sound clean)
+    still tree a v spot _ sound (λ head names site known shared here. use_kept tree names a v in_statement target w args sound known clean)
 layer_law (StmtKind-F.Assert e) = λ tree a v spot span sound clean.
-    still tree a v spot _ sound (λ site here. (kept e tree a v (in_invariant spot) (Exactly Truth) sound clean).1.formula None)
+    still tree a v spot _ sound (λ head names site known shared here. (kept e tree names a v (in_invariant spot) (Exactly Truth) sound known clean).1.formula None)
 layer_law (StmtKind-F.Send w n e) = λ tree a v spot span sound clean. record {
-  statement = λ site here. let k = here (loop_place spot span clean.0) in message_kept tree a v site.head e k.agree k.sound clean.1.1;
+  statement = λ head names site known shared here. let k = here (loop_place spot span clean.0) in message_kept tree head a v site.head e k.agree k.sound k.known clean.1.1;
   sound = sound;
-  agree = λ head x. x;
-  sent = λ head looped agree s. (message_kept tree a v head e agree s clean.1.1, tt);
+  known = λ names site known. known;
+  shared = λ head shared. shared;
+  agree = λ there x. x;
+  sent = λ head there looped agree s known. (message_kept tree head a v there e agree s known clean.1.1, tt);
 }
 layer_law (StmtKind-F.Recv w) = λ tree a v spot span sound clean.
-    still tree a v spot _ sound (λ site here. received_kept tree site.messages w.name (here (loop_place spot span clean.0)).told)
-layer_law (StmtKind-F.Return value) = λ tree a v spot span sound clean. still tree a v spot _ sound (λ site here. returned_kept tree a v value sound clean.1)
+    still tree a v spot _ sound (λ head names site known shared here. received_kept tree head site.messages w.name (here (loop_place spot span clean.0)).told)
+layer_law (StmtKind-F.Return value) = λ tree a v spot span sound clean. still tree a v spot _ sound (λ head names site known shared here. returned_kept tree names a v value sound known clean.1)
 
 -- The induction
 
