@@ -52,7 +52,7 @@ abbrev pub AllDeclared : List Class → List (ℕ × Declared) → Type 0
 AllDeclared classes names = AllByRecursion (λ entry. may_declare classes entry.1 ≡ true) names
 
 -- the plain tree declares what the program does, the class of `this` stands in it, and each type of a field, of the result and of a
--- variable in scope is declared; the names outside the innermost body are in scope
+-- variable in scope is declared; no more names stand outside the innermost body than are in scope
 pub record Sound (tree : core.Program) (a : Around) (v : Visible) : Type 0 where
   pub mirrors : Mirrors a.program tree
   pub here : a.here ≡ class_named a.program.classes a.class

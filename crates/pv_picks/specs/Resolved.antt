@@ -149,7 +149,7 @@ ResolvedShared p names s = ResolvedContract p names s.one × ResolvedItems p nam
 abbrev pub ResolvedTeam : Program → List Name → Team → Type 0
 ResolvedTeam p names t = Resolved p names t.low × Resolved p names t.high × ResolvedShared p (t.variable ∷ names) t.shared
 
--- a variable that is assigned is declared by that where it isn't in scope yet
+-- an assignment declares a variable that isn't in scope yet
 abbrev pub ResolvedTarget : Program → List Name → Target → Type 0
 ResolvedTarget p names core.Nowhere = Unit {0}
 ResolvedTarget p names (core.ToVariable name) = Unit {0}
@@ -198,7 +198,7 @@ abbrev mutual
 
 -- Programs
 
--- in the names of its parameters
+-- a method in the names of its parameters
 abbrev pub ResolvedMethod : Program → List Name → Method → Type 0
 ResolvedMethod p names m = ResolvedContract p names m.contract × ResolvedBlock p names names m.body
 
