@@ -51,7 +51,7 @@ no_local_if true d h = h
 no_local_if false d h = refl
 
 -- the scope with one more name behind the others
-abbrev with_name : Visible → ℕ × Declared → Visible
+abbrev pub with_name : Visible → ℕ × Declared → Visible
 with_name v e = record v { names = v.names ++ e ∷ [] }
 
 declared_if : (b : Bool) (v w : Visible) → b ≡ false → (if b then v else w) ≡ w
@@ -65,7 +65,7 @@ declared_new v n d h = declared_if (is_visible v n) v (with_name v (n.0, d)) h
 inner_with : (v : Visible) (e : ℕ × Declared) (m : Name) → v.outside ≤ length v.names → declared_as (drop v.outside (v.names ++ e ∷ [])) m ≡ or_else (declared_as (drop v.outside v.names) m) (declared_as (e ∷ []) m)
 inner_with v e m h = ap (λ names. declared_as names m) (drop-append-le v.outside v.names (e ∷ []) h) ∙ declared_more (drop v.outside v.names) e m
 
-within_more : (o : ℕ) (names : List (ℕ × Declared)) (e : ℕ × Declared) → o ≤ length names → o ≤ length (names ++ e ∷ [])
+pub within_more : (o : ℕ) (names : List (ℕ × Declared)) (e : ℕ × Declared) → o ≤ length names → o ≤ length (names ++ e ∷ [])
 within_more o names e h = let same : length (names ++ e ∷ []) ≡ length names + length (e ∷ []) = length-append names (e ∷ []) in rw same (omega arith)
 
 -- a name that is no local, in both scopes
@@ -122,13 +122,17 @@ else_same None b d h = ap (λ b. if b then Some d else None) (h refl)
 found_same : (whole inside : Option Declared) (b : Bool) (d : Declared) → is_local d.declaration ≡ true → (whole ≡ None → inside ≡ None) → is_local_variable (or_else inside (if b then Some d else None)) ≡ false → or_else whole (if b then Some d else None) ≡ whole
 found_same whole inside b d l none h = else_same whole b d (λ i. (else_local inside b d l h).0 (none i))
 
+-- a name that is no local of the body means the same without that local
+pub local_same : (v : Visible) (n : Name) (d : Declared) (m : Name) → is_local d.declaration ≡ true → v.outside ≤ length v.names → is_inner_local (with_name v (n.0, d)) m ≡ false → (declared_as (v.names ++ (n.0, d) ∷ []) m ≡ declared_as v.names m) × (is_inner_local v m ≡ false)
+local_same v n d m l h i =
+    let inner = sym (ap is_local_variable (inner_with v (n.0, d) m h)) ∙ i in (
+      declared_more v.names (n.0, d) m ∙ found_same (declared_as v.names m) (declared_as (drop v.outside v.names) m) (nat_eq m.0 n.0) d l (nothing_inside v.outside v.names m) inner,
+      (else_local (declared_as (drop v.outside v.names) m) (nat_eq m.0 n.0) d l inner).1,
+    )
+
 agree_local_with : (v head : Visible) (n : Name) (d : Declared) → is_local d.declaration ≡ true → Agree v head → Agree (with_name v (n.0, d)) head
 agree_local_with v head n d l a = record {
-  same = λ m i.
-      let inner = sym (ap is_local_variable (inner_with v (n.0, d) m a.within)) ∙ i in
-      declared_more v.names (n.0, d) m
-      ∙ found_same (declared_as v.names m) (declared_as (drop v.outside v.names) m) (nat_eq m.0 n.0) d l (nothing_inside v.outside v.names m) inner
-      ∙ a.same m (else_local (declared_as (drop v.outside v.names) m) (nat_eq m.0 n.0) d l inner).1;
+  same = λ m i. let s = local_same v n d m l a.within i in s.0 ∙ a.same m s.1;
   fewer = λ m i. a.fewer m (or_none (is_visible v m) (is_some (declared_as ((n.0, d) ∷ []) m)) (sym (visible_more v (n.0, d) m) ∙ i)).0;
   without = a.without;
   within = within_more v.outside v.names (n.0, d) a.within;

@@ -4,11 +4,12 @@ pub mod WorkedStatements
 pub mod Equations
 pub mod Clean
 pub mod Mirrors
+pub mod Agreeing
 pub mod Sound
 pub mod Keeping
-pub mod Resolving
-pub mod Agreeing
 pub mod Heads
+pub mod Knowing
+pub mod Resolving
 pub mod Uses
 pub mod StmtLayers
 pub mod Stmts

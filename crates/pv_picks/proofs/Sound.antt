@@ -1,5 +1,5 @@
 -- Where expressions stand in a program that breaks no rule, and what the types of parts without a fault say there.
-use Rattle.std.proofs.Common.{◌≡◌, ℕ, Bool, true, false, not, ◌||◌, Option, Some, None, is_some, List, [], ◌∷◌, ◌++◌, refl, sym, ◌∙◌, ap, subst}
+use Rattle.std.proofs.Common.{◌≡◌, ℕ, Bool, true, false, not, ◌||◌, Option, Some, None, is_some, List, [], ◌∷◌, ◌++◌, ◌≤◌, length, refl, sym, ◌∙◌, ap, subst}
 use Rattle.std.proofs.lemmas.Bool.{and_from}
 use Rattle.std.specs.Prelude.{nat_eq, if◌then◌else◌}
 use Rattle.std.specs.List.{AllByRecursion}
@@ -26,6 +26,7 @@ use Rattle.pv_rules.specs.Parts.{Around, class_of, holder_of, holder_of_typing, 
 use Rattle.pv_meaning.specs.Core as core
 use Rattle.pv_picks.proofs.Clean.{Clean, unless_holds}
 use Rattle.pv_picks.proofs.Mirrors.{Mirrors}
+use Rattle.pv_picks.proofs.Agreeing.{with_name, within_more}
 
 -- the class of a type, where it has one, is declared
 abbrev pub has_class : List Class → PvType → Bool
@@ -51,7 +52,7 @@ abbrev pub AllDeclared : List Class → List (ℕ × Declared) → Type 0
 AllDeclared classes names = AllByRecursion (λ entry. may_declare classes entry.1 ≡ true) names
 
 -- the plain tree declares what the program does, the class of `this` stands in it, and each type of a field, of the result and of a
--- variable in scope is declared
+-- variable in scope is declared; no more names stand outside the innermost body than are in scope
 pub record Sound (tree : core.Program) (a : Around) (v : Visible) : Type 0 where
   pub mirrors : Mirrors a.program tree
   pub here : a.here ≡ class_named a.program.classes a.class
@@ -59,6 +60,7 @@ pub record Sound (tree : core.Program) (a : Around) (v : Visible) : Type 0 where
   pub fields : (class field : Name) (type : PvType) → type_of_field (class_named a.program.classes class) field ≡ Some type → is_declared_type a.program.classes type ≡ true
   pub result : (type : PvType) → a.result ≡ Some type → is_declared_type a.program.classes type ≡ true
   pub visible : AllDeclared a.program.classes v.names
+  pub within : v.outside ≤ length v.names
 
 -- a type is known, or there is none; `this` has its class; a class is declared
 pub record SeenKept (a : Around) (s : Seen) : Type 0 where
@@ -76,6 +78,10 @@ declared_if : (classes : List Class) (v : Visible) (b : Bool) (entry : ℕ × De
 declared_if classes v true entry h k = h
 declared_if classes v false entry h k = one_more classes v.names entry h k
 
+within_if : (v : Visible) (b : Bool) (entry : ℕ × Declared) → v.outside ≤ length v.names → (if b then v else with_name v entry).outside ≤ length (if b then v else with_name v entry).names
+within_if v true entry h = h
+within_if v false entry h = within_more v.outside v.names entry h
+
 -- one more name is in scope: a block's, or a variable's of a type that a declaration may have
 pub sound_with : (tree : core.Program) (a : Around) (v : Visible) (how : Declaration) (name : Name) (type : PvType) → may_declare a.program.classes (record { declaration = how; kind = type }) ≡ true → Sound tree a v → Sound tree a (declare_variable how v name type)
 sound_with tree a v how name type d s = record {
@@ -85,6 +91,7 @@ sound_with tree a v how name type d s = record {
   fields = s.fields;
   result = s.result;
   visible = declared_if a.program.classes v (is_visible v name) (name.0, record { declaration = how; kind = type }) s.visible d;
+  within = within_if v (is_visible v name) (name.0, record { declaration = how; kind = type }) s.within;
 }
 
 found_if : (classes : List Class) (b : Bool) (d : Declared) (rest : Option Declared) (e : Declared) → may_declare classes d ≡ true → (rest ≡ Some e → may_declare classes e ≡ true) → (if b then Some d else rest) ≡ Some e → may_declare classes e ≡ true

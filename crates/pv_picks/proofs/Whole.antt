@@ -1,5 +1,5 @@
 -- A program that keeps the static rules becomes a plain tree in which each name is resolved.
-use Rattle.std.proofs.Common.{◌≡◌, ℕ, ◌+◌, Bool, true, false, ◌||◌, Option, Some, None, is_some, option_map, List, [], ◌∷◌, map, refl, sym, ◌∙◌, ap, subst}
+use Rattle.std.proofs.Common.{◌≡◌, ℕ, ◌+◌, Bool, true, false, ◌||◌, Option, Some, None, is_some, option_map, List, [], ◌∷◌, map, refl, sym, ◌∙◌, ap, subst, arith}
 use Rattle.std.proofs.lemmas.Bool.{eq-eqb}
 use Rattle.std.specs.Prelude.{if◌then◌else◌}
 use Rattle.std.specs.List.{AllByRecursion}
@@ -29,13 +29,15 @@ use Rattle.pv_rules.specs.Parts.{Around, type_of_field, type_of_param}
 use Rattle.pv_rules.specs.Statements.{StmtPart, in_condition, option_type, repeated_behind, has_label, faults_of_body, parts_of_block, is_loop, is_nothing}
 use Rattle.pv_rules.specs.Programs.{KeepsRules, in_class, with_params, with_param, faults_of_params, faults_of_result, faults_of_method, faults_of_run, faults_of_predicate, faults_of_members, faults_of_lock_invariant, faults_of_classes, faults_of_program, at_body}
 use Rattle.pv_meaning.specs.Core as core
+use Rattle.pv_picks.specs.Names.{parameters_of}
 use Rattle.pv_picks.specs.Pieces.{core_of_formula}
 use Rattle.pv_picks.specs.Statements.{StmtPiece, Site, at, block_from, outermost, piece_of_stmt, core_of_body}
 use Rattle.pv_picks.specs.Programs.{core_of, core_of_class, core_of_member, in_method, parameters_in_scope}
-use Rattle.pv_picks.specs.Resolved.{ResolvedBlock, ResolvedMember, ResolvedInvariant, ResolvedClass, IsResolved}
+use Rattle.pv_picks.specs.Resolved.{behind, names_of, ResolvedBlock, ResolvedMember, ResolvedInvariant, ResolvedClass, IsResolved}
 use Rattle.pv_picks.proofs.Clean.{Clean, clean_from, unless_holds, if_fails}
 use Rattle.pv_picks.proofs.Mirrors.{core_mirrors}
 use Rattle.pv_picks.proofs.Sound.{Sound, sound_with}
+use Rattle.pv_picks.proofs.Knowing.{Knows, knows_all, knows_nothing, knows_params}
 use Rattle.pv_picks.proofs.Uses.{kept, contract_kept}
 use Rattle.pv_picks.proofs.Stmts.{AllLaws, statement_law}
 use Rattle.pv_picks.proofs.StmtLayers.{parts_in_pieces}
@@ -123,6 +125,7 @@ sound_class p c clean found = record {
   fields = classes_declared p p.classes clean;
   result = λ type h. absurd (no_type type h);
   visible = tt;
+  within = omega arith;
 }
 
 sound_params : (tree : core.Program) (a : Around) (v : Visible) (ps : List Param) → Sound tree a v → Clean (faults_of_params a v ps) → Sound tree a (with_params v ps)
@@ -145,6 +148,7 @@ sound_result tree a v o s clean = record {
   fields = s.fields;
   result = result_declared (record a { result = option_type o }) o clean;
   visible = s.visible;
+  within = s.within;
 }
 
 -- Bodies
@@ -152,19 +156,22 @@ sound_result tree a v o s clean = record {
 not_a_loop : (method : Bool) → is_loop (at_body method).surround ≡ true → ⊥
 not_a_loop method h = cc
 
-body_kept : (ss : List StmtPiece) → AllLaws ss → (n : ℕ) (tree : core.Program) (a : Around) (v : Visible) (spot : Spot) (site : Site) → (is_loop spot.surround ≡ true → ⊥) → Sound tree a v → Clean (faults_of_body (map (λ s. s.part) ss) a v spot) → ResolvedBlock tree (block_from n ss a v site)
-body_kept [] laws n tree a v spot site no_loop sound clean = tt
-body_kept (s ∷ ss) laws n tree a v spot site no_loop sound clean =
-    let h = laws.0 tree a v (record spot { last = is_nothing (map (λ s. s.part) ss) }) sound clean.0 in
-    (h.statement (at n site) (λ loop. absurd (no_loop loop)), body_kept ss laws.1 (n + 1) tree a (s.part.behind v) spot site no_loop h.sound clean.1)
+body_kept : (ss : List StmtPiece) → AllLaws ss → (n : ℕ) (tree : core.Program) (head names : List Name) (a : Around) (v : Visible) (spot : Spot) (site : Site) → (is_loop spot.surround ≡ true → ⊥) → Sound tree a v → Knows true v names → Knows false v head
+    → Clean (faults_of_body (map (λ s. s.part) ss) a v spot) → ResolvedBlock tree head names (block_from n ss a v site)
+body_kept [] laws n tree head names a v spot site no_loop sound known shared clean = tt
+body_kept (s ∷ ss) laws n tree head names a v spot site no_loop sound known shared clean =
+    let h = laws.0 tree a v (record spot { last = is_nothing (map (λ s. s.part) ss) }) sound clean.0 in (
+      h.statement head names (at n site) known shared (λ loop. absurd (no_loop loop)),
+      body_kept ss laws.1 (n + 1) tree head (behind names (s.statement a v (at n site))) a (s.part.behind v) spot site no_loop h.sound (h.known names (at n site) known) (h.shared head shared) clean.1,
+    )
 
 all_laws : (ss : List Stmt) → AllLaws (map piece_of_stmt ss)
 all_laws [] = tt
 all_laws (s ∷ ss) = (statement_law s, all_laws ss)
 
-whole_body : (tree : core.Program) (a : Around) (v : Visible) (method : Bool) (ss : List Stmt) → Sound tree a v → Clean (faults_of_body (parts_of_block ss) a v (at_body method)) → ResolvedBlock tree (core_of_body a v ss)
-whole_body tree a v method ss sound clean =
-    body_kept (map piece_of_stmt ss) (all_laws ss) 0 tree a v (at_body method) (outermost v) (not_a_loop method) sound
+whole_body : (tree : core.Program) (names : List Name) (a : Around) (v : Visible) (method : Bool) (ss : List Stmt) → Sound tree a v → Knows true v names → Clean (faults_of_body (parts_of_block ss) a v (at_body method)) → ResolvedBlock tree names names (core_of_body a v ss)
+whole_body tree names a v method ss sound known clean =
+    body_kept (map piece_of_stmt ss) (all_laws ss) 0 tree names names a v (at_body method) (outermost v) (not_a_loop method) sound known (knows_all false v names known)
     (subst (λ (ps : List StmtPart). Clean (faults_of_body ps a v (at_body method))) (sym (parts_in_pieces ss)) clean)
 
 -- Members
@@ -172,14 +179,18 @@ whole_body tree a v method ss sound clean =
 method_kept : (tree : core.Program) (a : Around) (m : Method) → Sound tree a nothing_visible → Clean (faults_of_method a m) → ResolvedMember tree (core_of_member a (member.Method m))
 method_kept tree a m sound clean =
     let here = sound_params tree (in_method a m) nothing_visible m.params (sound_result tree a nothing_visible m.result sound clean.0) clean.1.0 in
-    (contract_kept tree (in_method a m) (parameters_in_scope m) _ _ m.contract here clean.1.1.0, whole_body tree (in_method a m) (parameters_in_scope m) true m.body here clean.1.1.1.0)
+    let names : List Name = names_of (parameters_of m.params) in
+    let known : Knows true (parameters_in_scope m) names = knows_params m.params in
+    (contract_kept tree names (in_method a m) (parameters_in_scope m) _ _ m.contract here known known clean.1.1.0, whole_body tree names (in_method a m) (parameters_in_scope m) true m.body here known clean.1.1.1.0)
 
 run_kept : (tree : core.Program) (a : Around) (r : RunMethod) → Sound tree a nothing_visible → Clean (faults_of_run a r) → ResolvedMember tree (core_of_member a (member.Run r))
-run_kept tree a r sound clean = (contract_kept tree a nothing_visible _ _ r.contract sound clean.0, whole_body tree a nothing_visible false r.body sound clean.1)
+run_kept tree a r sound clean =
+    let known : Knows true nothing_visible [] = knows_nothing true in
+    (contract_kept tree [] a nothing_visible _ _ r.contract sound known known clean.0, whole_body tree [] a nothing_visible false r.body sound known clean.1)
 
 predicate_kept : (tree : core.Program) (a : Around) (q : Predicate) → Sound tree a nothing_visible → Clean (faults_of_predicate a q) → ResolvedMember tree (core_of_member a (member.Predicate q))
 predicate_kept tree a q sound clean =
-    (kept q.body tree a (with_params nothing_visible q.params) in_condition (Exactly Truth) (sound_params tree a nothing_visible q.params sound clean.0) clean.1).1.formula None
+    (kept q.body tree (names_of (parameters_of q.params)) a (with_params nothing_visible q.params) in_condition (Exactly Truth) (sound_params tree a nothing_visible q.params sound clean.0) (knows_params q.params) clean.1).1.formula None
 
 members_kept : (tree : core.Program) (a : Around) (ms : List Member) → Sound tree a nothing_visible → Clean (faults_of_members a ms) → AllByRecursion (ResolvedMember tree) (map (core_of_member a) ms)
 members_kept tree a [] sound clean = tt
@@ -192,7 +203,7 @@ members_kept tree a (member.Run r ∷ ms) sound clean = (run_kept tree a r sound
 
 invariant_kept : (tree : core.Program) (a : Around) (o : Option Expr) → Sound tree a nothing_visible → Clean (faults_of_lock_invariant a o) → ResolvedInvariant tree (option_map (core_of_formula a nothing_visible) o)
 invariant_kept tree a None sound clean = tt
-invariant_kept tree a (Some e) sound clean = (kept e tree a nothing_visible in_condition (Exactly Truth) sound clean).1.formula None
+invariant_kept tree a (Some e) sound clean = (kept e tree [] a nothing_visible in_condition (Exactly Truth) sound (knows_nothing true) clean).1.formula None
 
 classes_kept : (p : Program) (cs : List Class) → Clean (faults_of_classes p p.classes) → AllFound p.classes cs → Clean (faults_of_classes p cs) → AllByRecursion (ResolvedClass (core_of p)) (map (core_of_class p) cs)
 classes_kept p [] all found clean = tt

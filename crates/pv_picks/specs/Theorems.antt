@@ -1,6 +1,6 @@
 -- What is to be proved of verdicts on programs: their grounds, soundness over all interleavings, and agreement on loops. No contract states
 -- these yet.
-use Rattle.std.specs.Prelude.{List, [], ◌∷◌, Option}
+use Rattle.std.specs.Prelude.{List, [], ◌∷◌}
 use Rattle.pv_ast.specs.declared.Program.{Program}
 use Rattle.pv_rules.specs.WellFormed.{IsWellFormed}
 use Rattle.pv_meaning.specs.declared.unit.PvUnit.{PvUnit}

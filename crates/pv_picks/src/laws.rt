@@ -6,7 +6,7 @@ ghost use Rattle.pv_picks.specs.Resolved.{IsResolved};
 ghost use Rattle.pv_picks.specs.Messages.{IsMatched};
 
 /// In what a program becomes that keeps the static rules, each name of a class and of a member is declared, and used as it is
-/// declared.
+/// declared; and each variable that is named is in scope there.
 pub fn resolves_well_formed()
     ensures { (p : Program) → KeepsRules p → IsResolved (core_of p) }
 {}
