@@ -3,5 +3,5 @@ mod Local
 mod Labels
 mod Kept
 mod Steps
-mod Reached
+pub mod Reached
 mod Counting

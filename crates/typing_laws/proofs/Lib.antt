@@ -1,0 +1,8 @@
+mod Types
+mod Scopes
+mod Places
+mod Expressions
+mod Uses
+mod Statements
+mod Members
+mod Programs

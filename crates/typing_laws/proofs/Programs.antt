@@ -1,0 +1,220 @@
+-- What a well formed program becomes is well typed.
+use Rattle.std.proofs.Common.{◌≡◌, ℕ, ◌+◌, Bool, true, false, not, ◌&&◌, ◌||◌, Option, Some, None, is_some, option_map, unwrap_or, List, [], ◌∷◌, map, refl, sym, ◌∙◌, ap, subst}
+use Rattle.std.proofs.lemmas.Bool.{or_left, or_right, and_parts}
+use Rattle.pv_base.specs.declared.Name.{Name}
+use Rattle.pv_base.specs.declared.Span.{Span}
+use Rattle.pv_ast.specs.declared.TypeWord.{TypeWord}
+use Rattle.pv_ast.specs.declared.PvType.{PvType}
+use Rattle.pv_ast.specs.declared.PvType.TheVariants.{Null}
+use Rattle.pv_ast.specs.declared.Param.{Param}
+use Rattle.pv_ast.specs.declared.Stmt.{Stmt}
+use Rattle.pv_ast.specs.declared.StmtKind.{StmtKind, StmtKind-F, out-StmtKind}
+use Rattle.pv_ast.specs.declared.Method.{Method}
+use Rattle.pv_ast.specs.declared.RunMethod.{RunMethod}
+use Rattle.pv_ast.specs.declared.Class.{Class}
+use Rattle.pv_ast.specs.declared.Program.{Program}
+use Rattle.pv_rules.specs.declared.fault.Rule.TheVariants as rule
+use Rattle.pv_rules.specs.declared.standing.Spot.{Spot}
+use Rattle.pv_rules.specs.Lookup as rules
+use Rattle.pv_rules.specs.Lookup.{class_named, is_declared_type}
+use Rattle.pv_rules.specs.Scoping.{Visible, nothing_visible}
+use Rattle.pv_rules.specs.Parts as parts
+use Rattle.pv_rules.specs.Parts.{Around, members_of, type_of_field}
+use Rattle.pv_rules.specs.Shapes as shapes
+use Rattle.pv_rules.specs.Statements.{StmtPart, option_type, faults_of_body, parts_of_block, is_nothing}
+use Rattle.pv_rules.specs.Programs.{in_class, with_params, faults_of_members, at_body, is_value_return, ends_with_value, faults_of_program}
+use Rattle.pv_rules.specs.WellFormed.{IsWellFormed}
+use Rattle.pv_meaning.specs.Core.{Block}
+use Rattle.pv_meaning.specs.Core as core
+use Rattle.pv_meaning.specs.Members.{field_type, method_named, run_of}
+use Rattle.pv_picks.specs.Names.{parameter_of, parameters_of}
+use Rattle.pv_picks.specs.Statements.{StmtPiece, Site, at, block_from, outermost, core_of_body, piece_in_stmt_kind, piece_of_stmt}
+use Rattle.pv_picks.specs.Programs.{core_of, in_method, parameters_in_scope, core_of_method, core_of_run}
+use Rattle.pv_picks.proofs.Clean.{Clean, clean_from, if_fails}
+use Rattle.pv_picks.proofs.Mirrors.{first_run, core_mirrors, method_at, run_at, method_found, run_found}
+use Rattle.pv_picks.proofs.Sound.{Sound}
+use Rattle.pv_picks.proofs.StmtLayers.{layer_of, kind_rolled, stmt_rolled, parts_in_pieces}
+use Rattle.pv_picks.proofs.Whole.{sound_class, sound_params, sound_result, result_declared}
+use Rattle.typed_programs.specs.Expressions.{Home, answer_of}
+use Rattle.typed_programs.specs.Blocks.{types_of, gives_statement, gives, BlockFits, ends, home_of, over, MethodFits, ProgramFits}
+use Rattle.typing_laws.proofs.Scopes.{nothing_listed, params_listed}
+use Rattle.typing_laws.proofs.Places.{Declares, IsMethodThere, Place}
+use Rattle.typing_laws.proofs.Expressions.{no_first, no_second}
+use Rattle.typing_laws.proofs.Statements.{Returns, statement_law}
+use Rattle.typing_laws.proofs.Members.{found_of, found_name, IsClean, classes_clean, IsCleanMethod, methods_clean, IsCleanRun, run_clean}
+
+-- What a program declares
+
+same_types : (ps : List Param) → types_of (parameters_of ps) ≡ parts.types_of ps
+same_types [] = refl
+same_types (p ∷ ps) = ap (λ types. p.kind.kind ∷ types) (same_types ps)
+
+method_there : (p : Program) (o : Option Class) (class name : Name) (m : Method) → class_named p.classes class ≡ o → rules.method_named (members_of o) name ≡ Some m → IsMethodThere (core_of p) class name m
+method_there p None class name m there is = absurd cc
+method_there p (Some c) class name m there is = record {
+  there = core_of_method (in_class p c) m;
+  found = method_found p class name ∙ ap (λ o. method_at p o name) there ∙ ap (option_map (core_of_method (in_class p c))) is;
+  types = same_types m.params;
+  result = refl;
+}
+
+method_result : (p : Program) (o : Option Class) (class name : Name) (m : Method) (type : PvType) → ((c : Class) → o ≡ Some c → IsClean p c) → rules.method_named (members_of o) name ≡ Some m → option_type m.result ≡ Some type
+    → is_declared_type p.classes type ≡ true
+method_result p None class name m type clean is result = absurd cc
+method_result p (Some c) class name m type clean is result =
+    let k : IsClean p c = clean c refl in
+    let f : IsCleanMethod (in_class p c) m =
+    found_of (IsCleanMethod (in_class p c)) (λ m. m.name.name) _ name m (methods_clean (in_class p c) c.members k.0.1.1.1 (no_second (shapes.faults_of_invariant c.lock_invariant) _ k.1)) is in
+    result_declared (in_class p c) m.result f.0.0 type result
+
+declares : (p : Program) → ((class : Name) (c : Class) → class_named p.classes class ≡ Some c → IsClean p c) → Declares p (core_of p)
+declares p clean = record {
+  fields = λ class field type is. (core_mirrors p).fields class field ∙ is;
+  methods = λ class name m is. method_there p (class_named p.classes class) class name m refl is;
+  results = λ class name m type is result. method_result p (class_named p.classes class) class name m type (clean class) is result;
+}
+
+-- Bodies
+
+body_law : (ss : List Stmt) (n : ℕ) (h : Home) (a : Around) (v : Visible) (xs : List core.Parameter) (spot : Spot) (site : Site) (around : shapes.Around) → Place h a v xs → ((there : Spot) → Returns h a there)
+    → Clean (faults_of_body (map (λ s. s.part) (map piece_of_stmt ss)) a v spot) → shapes.faults_of_block ss around ≡ [] → BlockFits h xs (block_from n (map piece_of_stmt ss) a v site)
+body_law [] n h a v xs spot site around place returns clean none = ends
+body_law (s ∷ ss) n h a v xs spot site around place returns clean none =
+    let there : Spot = record spot { last = is_nothing (map (λ s. s.part) (map piece_of_stmt ss)) } in
+    statement_law s h a v xs there (at n site) around place (returns there) clean.0 (no_first (shapes.faults_of_stmt s around) (shapes.faults_of_block ss around) none) _
+    (λ ys further. body_law ss (n + 1) h a ((piece_of_stmt s).part.behind v) ys spot site around further returns clean.1 (no_second (shapes.faults_of_stmt s around) (shapes.faults_of_block ss around) none))
+
+whole_body : (ss : List Stmt) (h : Home) (a : Around) (v : Visible) (xs : List core.Parameter) (method : Bool) → Place h a v xs → ((there : Spot) → Returns h a there) → Clean (faults_of_body (parts_of_block ss) a v (at_body method))
+    → shapes.faults_of_block ss shapes.outside ≡ [] → BlockFits h xs (core_of_body a v ss)
+whole_body ss h a v xs method place returns clean none =
+    body_law ss 0 h a v xs (at_body method) (outermost v) shapes.outside place returns
+    (subst (λ (ps : List StmtPart). Clean (faults_of_body ps a v (at_body method))) (sym (parts_in_pieces ss)) clean) none
+
+-- a body whose last statement gives a value gives one
+value_given : (l : StmtKind-F StmtKind Stmt) (span : Span) (a : Around) (v : Visible) (site : Site) → is_value_return l ≡ true → gives_statement ((piece_in_stmt_kind (layer_of l)).statement span a v site) ≡ true
+value_given (StmtKind-F.Return (Some e)) span a v site k = refl
+value_given (StmtKind-F.Return None) span a v site k = absurd cc
+value_given (StmtKind-F.Local type w value) span a v site k = absurd cc
+value_given (StmtKind-F.Assign place value) span a v site k = absurd cc
+value_given (StmtKind-F.Call target w args) span a v site k = absurd cc
+value_given (StmtKind-F.If e first second) span a v site k = absurd cc
+value_given (StmtKind-F.While es e body) span a v site k = absurd cc
+value_given (StmtKind-F.For range c body) span a v site k = absurd cc
+value_given (StmtKind-F.Par o range c body) span a v site k = absurd cc
+value_given (StmtKind-F.Barrier w c) span a v site k = absurd cc
+value_given (StmtKind-F.Fork e) span a v site k = absurd cc
+value_given (StmtKind-F.Join e) span a v site k = absurd cc
+value_given (StmtKind-F.Lock e) span a v site k = absurd cc
+value_given (StmtKind-F.Unlock e) span a v site k = absurd cc
+value_given (StmtKind-F.Commit e) span a v site k = absurd cc
+value_given (StmtKind-F.Fold target w args) span a v site k = absurd cc
+value_given (StmtKind-F.Unfold target w args) span a v site k = absurd cc
+value_given (StmtKind-F.Assert e) span a v site k = absurd cc
+value_given (StmtKind-F.Send w n e) span a v site k = absurd cc
+value_given (StmtKind-F.Recv w) span a v site k = absurd cc
+
+statement_gives : (s : Stmt) (a : Around) (v : Visible) (site : Site) → is_value_return (out-StmtKind s.kind) ≡ true → gives_statement ((piece_of_stmt s).statement a v site) ≡ true
+statement_gives s a v site k =
+    ap (λ (x : StmtPiece). gives_statement (x.statement a v site)) (stmt_rolled s) ∙ ap (λ x. gives_statement (x.statement s.span a v site)) (kind_rolled s.kind)
+    ∙ value_given (out-StmtKind s.kind) s.span a v site k
+
+body_gives : (ss : List Stmt) (n : ℕ) (a : Around) (v : Visible) (site : Site) → ends_with_value ss ≡ true → gives (block_from n (map piece_of_stmt ss) a v site) ≡ true
+body_gives [] n a v site k = absurd cc
+body_gives (s ∷ []) n a v site k = or_left (gives_statement ((piece_of_stmt s).statement a v (at n site))) false (statement_gives s a v (at n site) k)
+body_gives (s ∷ t ∷ ss) n a v site k =
+    or_right (gives_statement ((piece_of_stmt s).statement a v (at n site))) _ (body_gives (t ∷ ss) (n + 1) a ((piece_of_stmt s).part.behind v) site k)
+
+not_false : (b c : Bool) → b ≡ true → (b && not c) ≡ false → c ≡ true
+not_false true true h k = refl
+not_false true false h k = absurd cc
+not_false false c h k = absurd cc
+
+no_type : (type : PvType) → None ≡ Some type → ⊥
+no_type type h = cc
+
+has_result : (o : Option TypeWord) (type : PvType) → option_type o ≡ Some type → is_some o ≡ true
+has_result None type h = absurd cc
+has_result (Some t) type h = refl
+
+-- Methods and each `run`
+
+-- a class of the program that is found by a name
+pub record ClassAt (p : Program) (class : Name) (c : Class) : Type 0 where
+  pub clean : IsClean p c
+  pub name : class ≡ c.name.name
+  pub sound : Sound (core_of p) (in_class p c) nothing_visible
+  pub declares : Declares p (core_of p)
+
+method_fits : (p : Program) (class : Name) (c : Class) (m : Method) → ClassAt p class c → IsCleanMethod (in_class p c) m → MethodFits (core_of p) class (core_of_method (in_class p c) m)
+method_fits p class c m at f =
+    let a : Around = in_method (in_class p c) m in
+    let h : Home = home_of (core_of p) class (core_of_method (in_class p c) m) in
+    let place : Place h a (parameters_in_scope m) (over [] (parameters_of m.params)) = record {
+      sound = sound_params (core_of p) a nothing_visible m.params (sound_result (core_of p) (in_class p c) nothing_visible m.result at.sound f.0.0) f.0.1.0;
+      declares = at.declares;
+      class = sym at.name;
+      listed = params_listed a nothing_visible [] m.params f.0.1.0 nothing_listed;
+    } in
+    record {
+      body = whole_body m.body h a (parameters_in_scope m) (over [] (parameters_of m.params)) true place
+          (λ there last type is. ap (λ o. Some (unwrap_or o Null)) is) f.0.1.1.1.0 (no_second (shapes.faults_of_contract m.contract) _ f.1);
+      result = λ type is. body_gives m.body 0 a (parameters_in_scope m) (outermost (parameters_in_scope m))
+          (not_false (is_some m.result) (ends_with_value m.body) (has_result m.result type is) (if_fails _ rule.NoReturn m.name.span f.0.1.1.1.1));
+    }
+
+run_fits : (p : Program) (class : Name) (c : Class) (r : RunMethod) → ClassAt p class c → IsCleanRun (in_class p c) r → MethodFits (core_of p) class (core_of_run (in_class p c) r)
+run_fits p class c r at f =
+    let h : Home = home_of (core_of p) class (core_of_run (in_class p c) r) in
+    let place : Place h (in_class p c) nothing_visible [] = record { sound = at.sound; declares = at.declares; class = sym at.name; listed = nothing_listed } in
+    record {
+      body = whole_body r.body h (in_class p c) nothing_visible [] false place (λ there last type is. absurd (no_type type is)) f.0.1 (no_second (shapes.faults_of_contract r.contract) _ f.1);
+      result = λ type is. absurd (no_type type is);
+    }
+
+-- Programs
+
+method_at_fits : (p : Program) (class name : Name) (c : Class) (o : Option Method) (m : core.Method) → ClassAt p class c → rules.method_named c.members name ≡ o → option_map (core_of_method (in_class p c)) o ≡ Some m → MethodFits (core_of p) class m
+method_at_fits p class name c None m at there is = absurd cc
+method_at_fits p class name c (Some x) m at there is =
+    let same : core_of_method (in_class p c) x ≡ m = cc in
+    subst (λ (m : core.Method). MethodFits (core_of p) class m) same
+    (method_fits p class c x at (found_of (IsCleanMethod (in_class p c)) (λ m. m.name.name) _ name x (methods_clean (in_class p c) c.members at.clean.0.1.1.1 (no_second (shapes.faults_of_invariant c.lock_invariant) _ at.clean.1)) there))
+
+run_at_fits : (p : Program) (class : Name) (c : Class) (o : Option RunMethod) (m : core.Method) → ClassAt p class c → first_run c.members ≡ o → option_map (core_of_run (in_class p c)) o ≡ Some m
+    → MethodFits (core_of p) class m × (m.parameters ≡ [])
+run_at_fits p class c None m at there is = absurd cc
+run_at_fits p class c (Some r) m at there is =
+    let same : core_of_run (in_class p c) r ≡ m = cc in
+    subst (λ (m : core.Method). MethodFits (core_of p) class m × (m.parameters ≡ [])) same
+    (run_fits p class c r at (run_clean (in_class p c) c.members r at.clean.0.1.1.1 (no_second (shapes.faults_of_invariant c.lock_invariant) _ at.clean.1) there), refl)
+
+module _ (p : Program) (well_formed : IsWellFormed p) where
+  all_clean : Clean (faults_of_program p)
+  all_clean = clean_from (faults_of_program p) well_formed.rules
+
+  class_clean : (class : Name) (c : Class) → class_named p.classes class ≡ Some c → IsClean p c
+  class_clean class c is = found_of (IsClean p) (λ c. c.name.name) p.classes class c (classes_clean p p.classes all_clean.1 well_formed.shapes) is
+
+  class_at : (class : Name) (c : Class) → class_named p.classes class ≡ Some c → ClassAt p class c
+  class_at class c is =
+      let name : class ≡ c.name.name = found_name (λ c. c.name.name) p.classes class c is in
+      record {
+        clean = class_clean class c is;
+        name = name;
+        sound = sound_class p c all_clean.1 (ap (class_named p.classes) (sym name) ∙ is);
+        declares = declares p class_clean;
+      }
+
+  methods_fit : (class name : Name) (m : core.Method) (o : Option Class) → class_named p.classes class ≡ o → method_at p o name ≡ Some m → MethodFits (core_of p) class m
+  methods_fit class name m None there is = absurd cc
+  methods_fit class name m (Some c) there is = method_at_fits p class name c (rules.method_named c.members name) m (class_at class c there) refl is
+
+  runs_fit : (class : Name) (m : core.Method) (o : Option Class) → class_named p.classes class ≡ o → run_at p o ≡ Some m → MethodFits (core_of p) class m × (m.parameters ≡ [])
+  runs_fit class m None there is = absurd cc
+  runs_fit class m (Some c) there is = run_at_fits p class c (first_run c.members) m (class_at class c there) refl is
+
+  pub program_fits : ProgramFits (core_of p)
+  program_fits = record {
+    methods = λ class name m is. methods_fit class name m (class_named p.classes class) refl (sym (method_found p class name) ∙ is);
+    runs = λ class m is. runs_fit class m (class_named p.classes class) refl (sym (run_found p class) ∙ is);
+  }

@@ -1,0 +1,21 @@
+//! Laws of the types of well formed programs: each is a function that proves its clause and answers nothing.
+#![tactic(auto)]
+
+ghost use Rattle.pv_ast.specs.declared.Program.{Program};
+ghost use Rattle.pv_rules.specs.WellFormed.{IsWellFormed};
+ghost use Rattle.pv_meaning.specs.Safety.{IsReached};
+ghost use Rattle.pv_meaning.specs.Starts.{field_kind};
+ghost use Rattle.pv_meaning.specs.Worlds.{World};
+ghost use Rattle.pv_picks.specs.Programs.{core_of};
+ghost use Rattle.machine_laws.specs.Typed.{IsTypedHeap};
+ghost use Rattle.typed_programs.specs.Blocks.{ProgramFits};
+
+/// What a well formed program becomes is well typed: its methods and each `run`.
+pub fn well_formed_programs_are_typed()
+    ensures { (p : Program) → IsWellFormed p → ProgramFits (core_of p) }
+{}
+
+/// On the machine the heap of each world that a well formed program reaches is well typed: a step keeps it so.
+pub fn well_formed_programs_keep_heaps_typed()
+    ensures { (p : Program) → IsWellFormed p → (w : World) → IsReached (core_of p) w → IsTypedHeap (field_kind (core_of p)) w.heap }
+{}
