@@ -44,15 +44,6 @@ element_type _ = Int
 abbrev pub elements_of : Typing → PvType
 elements_of typing = element_type (settled typing)
 
--- 0, false or null
-abbrev pub default_of : PvType → Value
-default_of Int = value.Number (pos 0)
-default_of Truth = value.Truth false
-default_of (Object class) = value.Reference 0
-default_of IntArray = value.Reference 0
-default_of TruthArray = value.Reference 0
-default_of Null = value.Reference 0
-
 -- a name by what it is declared as: a variable, or else a field of `this`
 abbrev pub named : Around → Span → Name → Option Declared → Expression
 named a span name None = core.Field core.This a.class name span

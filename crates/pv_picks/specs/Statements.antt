@@ -24,8 +24,9 @@ use Rattle.pv_rules.specs.Parts.{Around}
 use Rattle.pv_rules.specs.Statements.{StmtPart, StmtKindPart, part_in_stmt_kind, part_in_stmt, with_loop_variable, with_block}
 use Rattle.pv_meaning.specs.Core.{Expression, Formula, Items, Target, Message, Parameter, Statement, Block}
 use Rattle.pv_meaning.specs.Core as core
+use Rattle.pv_meaning.specs.Values.{default_of}
 use Rattle.pv_picks.specs.Operations.{always, no_formula, no_span, target_of}
-use Rattle.pv_picks.specs.Names.{no_name, default_of, variable_in}
+use Rattle.pv_picks.specs.Names.{no_name, variable_in}
 use Rattle.pv_picks.specs.Pieces.{Piece, piece_of, core_of_expression, core_of_formula, core_of_items, has_old, object_of, class_of_object, arguments_of, together, class_of_piece}
 
 -- Contracts

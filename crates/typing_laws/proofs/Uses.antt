@@ -33,9 +33,9 @@ use Rattle.pv_rules.specs.Statements.{option_type, in_statement, faults_of_expre
 use Rattle.pv_meaning.specs.Core.{Expression}
 use Rattle.pv_meaning.specs.Core as core
 use Rattle.pv_meaning.specs.Members.{method_named}
-use Rattle.pv_meaning.specs.Values.{array_of}
+use Rattle.pv_meaning.specs.Values.{array_of, default_of}
 use Rattle.pv_picks.specs.Operations.{target_of}
-use Rattle.pv_picks.specs.Names.{class_at, default_of}
+use Rattle.pv_picks.specs.Names.{class_at}
 use Rattle.pv_picks.specs.Pieces.{piece_of, core_of_expression, object_of, class_of_object, arguments_of}
 use Rattle.pv_picks.specs.Statements.{core_of_call, core_of_right_kind, core_of_target, first_value, pieces_of}
 use Rattle.pv_picks.specs.Resolved.{names_of}
