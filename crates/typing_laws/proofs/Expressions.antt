@@ -4,7 +4,6 @@ use Rattle.std.proofs.lemmas.Bool.{and_parts, both_ways, or_left, not_from_false
 use Rattle.std.specs.Prelude.{if◌then◌else◌}
 use Rattle.pv_base.specs.declared.Name.{Name}
 use Rattle.pv_base.specs.declared.Span.{Span}
-use Rattle.pv_ast.specs.declared.Word.{Word}
 use Rattle.pv_ast.specs.declared.Operator.{Operator}
 use Rattle.pv_ast.specs.declared.Operator.TheVariants as op
 use Rattle.pv_ast.specs.declared.PvType.{PvType}
@@ -12,14 +11,14 @@ use Rattle.pv_ast.specs.declared.PvType.TheVariants.{Int, Truth, Object, IntArra
 use Rattle.pv_ast.specs.declared.Param.{Param}
 use Rattle.pv_ast.specs.declared.Expr.{Expr, Expr-F, ind-Expr, roll-Expr, map-Expr}
 use Rattle.pv_ast.specs.declared.ExprKind.{ExprKind, ExprKind-F, roll-ExprKind, map-ExprKind}
-use Rattle.pv_ast.specs.declared.Each.{Each, Each-F, roll-Each, map-Each}
+use Rattle.pv_ast.specs.declared.Each.{Each}
 use Rattle.pv_rules.specs.declared.fault.Rule.TheVariants as rule
 use Rattle.pv_rules.specs.declared.fault.ShapeFault.{ShapeFault}
 use Rattle.pv_rules.specs.declared.fault.ShapeFault.TheVariants.{QuantifierShape}
 use Rattle.pv_rules.specs.declared.scope.Declared.{Declared}
 use Rattle.pv_rules.specs.declared.standing.Context.{Context}
 use Rattle.pv_rules.specs.declared.standing.Need.{Need}
-use Rattle.pv_rules.specs.declared.standing.Need.TheVariants.{Anything, Exactly, AnObject, AnArray}
+use Rattle.pv_rules.specs.declared.standing.Need.TheVariants.{Exactly, AnArray}
 use Rattle.pv_rules.specs.declared.standing.Seen.{Seen}
 use Rattle.pv_rules.specs.declared.standing.Typing.{Typing}
 use Rattle.pv_rules.specs.declared.standing.Typing.TheVariants.{Unsettled, Untyped, Typed}
@@ -34,10 +33,9 @@ use Rattle.pv_picks.specs.Names.{class_at, elements_of, named}
 use Rattle.pv_picks.specs.Pieces.{Piece, KindPiece, EachPiece, Layer, piece_in_kind, piece_in_expr, piece_of, piece_of_kind, piece_of_each}
 use Rattle.pv_picks.proofs.Clean.{Clean, unless_holds, if_fails}
 use Rattle.pv_picks.proofs.Layers.{layer_of, kind_at_roll, expr_at_roll}
-use Rattle.pv_picks.proofs.Sound.{Sound, variable_declared}
+use Rattle.pv_picks.proofs.Sound.{variable_declared}
 use Rattle.typed_programs.specs.Expressions.{Home, IsOf}
-use Rattle.typing_laws.proofs.Types.{exact, null_wanted, itself, not_null, wanted, typed_if_wanted, equality_wanted, array_wanted, element_wanted}
-use Rattle.typing_laws.proofs.Scopes.{Lists}
+use Rattle.typing_laws.proofs.Types.{exact, null_wanted, itself, not_null, typed_if_wanted, equality_wanted, array_wanted, element_wanted}
 use Rattle.typing_laws.proofs.Places.{Place, IsPure, purely_pure, left_pure, right_pure}
 
 abbrev pub IsWanted : Home → List core.Parameter → Typing → Expression → Type 0
@@ -153,6 +151,7 @@ member_law h a v xs s span name e false array place fits need k =
 
 abbrev IsInt : Home → List core.Parameter → Expression → Type 0
 IsInt h xs e = IsOf h xs e Int
+
 plain : (h : Home) (xs : List core.Parameter) (e : Expression) (need : PvType) → IsOf h xs e need → IsOf h xs (plainly e) need
 plain h xs (core.Compute manner core.Minus x y span) need k = k
 plain h xs (core.Compute manner core.Plus x y span) need k = k

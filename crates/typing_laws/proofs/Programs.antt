@@ -1,6 +1,6 @@
 -- What a well formed program becomes is well typed.
-use Rattle.std.proofs.Common.{◌≡◌, ℕ, ◌+◌, Bool, true, false, not, ◌&&◌, ◌||◌, Option, Some, None, is_some, option_map, unwrap_or, List, [], ◌∷◌, map, refl, sym, ◌∙◌, ap, subst}
-use Rattle.std.proofs.lemmas.Bool.{or_left, or_right, and_parts}
+use Rattle.std.proofs.Common.{◌≡◌, ℕ, ◌+◌, Bool, true, false, not, ◌&&◌, Option, Some, None, is_some, option_map, unwrap_or, List, [], ◌∷◌, map, refl, sym, ◌∙◌, ap, subst}
+use Rattle.std.proofs.lemmas.Bool.{or_left, or_right}
 use Rattle.pv_base.specs.declared.Name.{Name}
 use Rattle.pv_base.specs.declared.Span.{Span}
 use Rattle.pv_ast.specs.declared.TypeWord.{TypeWord}
@@ -22,12 +22,11 @@ use Rattle.pv_rules.specs.Parts as parts
 use Rattle.pv_rules.specs.Parts.{Around, members_of, type_of_field}
 use Rattle.pv_rules.specs.Shapes as shapes
 use Rattle.pv_rules.specs.Statements.{StmtPart, option_type, faults_of_body, parts_of_block, is_nothing}
-use Rattle.pv_rules.specs.Programs.{in_class, with_params, faults_of_members, at_body, is_value_return, ends_with_value, faults_of_program}
+use Rattle.pv_rules.specs.Programs.{in_class, at_body, is_value_return, ends_with_value, faults_of_program}
 use Rattle.pv_rules.specs.WellFormed.{IsWellFormed}
 use Rattle.pv_meaning.specs.Core.{Block}
 use Rattle.pv_meaning.specs.Core as core
-use Rattle.pv_meaning.specs.Members.{field_type, method_named, run_of}
-use Rattle.pv_picks.specs.Names.{parameter_of, parameters_of}
+use Rattle.pv_picks.specs.Names.{parameters_of}
 use Rattle.pv_picks.specs.Statements.{StmtPiece, Site, at, block_from, outermost, core_of_body, piece_in_stmt_kind, piece_of_stmt}
 use Rattle.pv_picks.specs.Programs.{core_of, in_method, parameters_in_scope, core_of_method, core_of_run}
 use Rattle.pv_picks.proofs.Clean.{Clean, clean_from, if_fails}
@@ -35,7 +34,7 @@ use Rattle.pv_picks.proofs.Mirrors.{first_run, core_mirrors, method_at, run_at, 
 use Rattle.pv_picks.proofs.Sound.{Sound}
 use Rattle.pv_picks.proofs.StmtLayers.{layer_of, kind_rolled, stmt_rolled, parts_in_pieces}
 use Rattle.pv_picks.proofs.Whole.{sound_class, sound_params, sound_result, result_declared}
-use Rattle.typed_programs.specs.Expressions.{Home, answer_of}
+use Rattle.typed_programs.specs.Expressions.{Home}
 use Rattle.typed_programs.specs.Blocks.{types_of, gives_statement, gives, BlockFits, ends, home_of, over, MethodFits, ProgramFits}
 use Rattle.typing_laws.proofs.Scopes.{nothing_listed, params_listed}
 use Rattle.typing_laws.proofs.Places.{Declares, IsMethodThere, Place}

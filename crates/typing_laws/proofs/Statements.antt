@@ -1,5 +1,5 @@
 -- A statement without a fault becomes a well typed one, and so do the statements behind it.
-use Rattle.std.proofs.Common.{◌≡◌, ℕ, ◌+◌, Bool, true, false, ◌&&◌, Option, Some, None, is_some, option_map, List, [], ◌∷◌, ◌++◌, map, refl, sym, ◌∙◌, ap, subst}
+use Rattle.std.proofs.Common.{◌≡◌, ℕ, ◌+◌, true, false, ◌&&◌, Option, Some, None, is_some, option_map, List, [], ◌∷◌, ◌++◌, map, refl, sym, subst}
 use Rattle.std.proofs.lemmas.Bool.{and_parts, both_ways}
 use Rattle.pv_base.specs.declared.Span.{Span}
 use Rattle.pv_ast.specs.declared.Word.{Word}
@@ -16,23 +16,21 @@ use Rattle.pv_rules.specs.declared.fault.Rule.TheVariants as rule
 use Rattle.pv_rules.specs.declared.fault.ShapeFault.{ShapeFault}
 use Rattle.pv_rules.specs.declared.scope.Declaration.TheVariants.{Local}
 use Rattle.pv_rules.specs.declared.standing.Need.{Need}
-use Rattle.pv_rules.specs.declared.standing.Need.TheVariants.{Exactly}
 use Rattle.pv_rules.specs.declared.standing.Spot.{Spot}
 use Rattle.pv_rules.specs.declared.standing.Surround.TheVariants as surround
 use Rattle.pv_rules.specs.Lookup.{is_declared_type}
 use Rattle.pv_rules.specs.Scoping.{Visible, declare_variable, entered, is_visible}
-use Rattle.pv_rules.specs.Parts.{Around, part_of, typing_in}
+use Rattle.pv_rules.specs.Parts.{Around}
 use Rattle.pv_rules.specs.Shapes as shapes
 use Rattle.pv_rules.specs.Shapes.{quantifiers_in, quantifiers_in_option, quantifiers_in_all, quantifiers_in_right, quantifiers_in_range, faults_of_formulas as shapes_of_formulas, faults_of_item_contract, faults_of_each, faults_in_stmt_kind as shapes_in_stmt_kind, faults_in_stmt, faults_of_stmt, faults_of_stmt_kind}
 use Rattle.pv_rules.specs.Statements as statements
 use Rattle.pv_rules.specs.Statements.{StmtPart, faults_of_statements, in_branch, in_while, among_members, need_like, need_of_result, is_return_place, with_block}
 use Rattle.pv_meaning.specs.Core.{Expression, Block, Statement}
 use Rattle.pv_meaning.specs.Core as core
-use Rattle.pv_picks.specs.Names.{class_at}
 use Rattle.pv_picks.specs.Pieces.{piece_of, object_of}
-use Rattle.pv_picks.specs.Statements.{StmtPiece, StmtKindPiece, Site, at, block_from, inside_for, inside_par, in_for, in_par, core_of_action, piece_in_stmt_kind, piece_in_stmt, piece_of_stmt, piece_of_stmt_kind}
+use Rattle.pv_picks.specs.Statements.{StmtPiece, StmtKindPiece, Site, at, block_from, inside_for, inside_par, in_for, in_par, piece_in_stmt_kind, piece_in_stmt, piece_of_stmt, piece_of_stmt_kind}
 use Rattle.pv_picks.proofs.Clean.{Clean, unless_holds, if_fails}
-use Rattle.pv_picks.proofs.Sound.{Sound, sound_with}
+use Rattle.pv_picks.proofs.Sound.{sound_with}
 use Rattle.pv_picks.proofs.StmtLayers.{layer_of, kind_at_roll, stmt_at_roll}
 use Rattle.pv_picks.proofs.Stmts.{sound_for, sound_par}
 use Rattle.typed_programs.specs.Expressions.{Home, IsOf}

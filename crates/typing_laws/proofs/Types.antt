@@ -1,12 +1,11 @@
 -- Which type is wanted where a part has one.
-use Rattle.std.proofs.Common.{◌≡◌, Bool, true, false, ◌&&◌, ◌||◌, List, refl, sym, ◌∙◌, ap, inl, inr}
+use Rattle.std.proofs.Common.{◌≡◌, Bool, true, false, ◌||◌, List, refl, sym, ◌∙◌, ap, inl, inr}
 use Rattle.std.specs.Prelude.{IsTrue, nat_eq, if◌then◌else◌}
 use Rattle.std.proofs.lemmas.Bool.{eqb-true, eq-eqb, and_left, or_left}
 use Rattle.pv_base.specs.declared.Name.{Name}
 use Rattle.pv_ast.specs.declared.PvType.{PvType}
 use Rattle.pv_ast.specs.declared.PvType.TheVariants.{Int, Truth, Object, IntArray, TruthArray, Null}
 use Rattle.pv_ast.specs.declared.Class.{Class}
-use Rattle.pv_rules.specs.declared.standing.Need.{Need}
 use Rattle.pv_rules.specs.declared.standing.Need.TheVariants.{Exactly, AnObject, AnArray}
 use Rattle.pv_rules.specs.declared.standing.Typing.{Typing}
 use Rattle.pv_rules.specs.declared.standing.Typing.TheVariants.{Unsettled, Untyped, Typed}
