@@ -1,9 +1,12 @@
 //! Laws of what programs become: each is a function that proves its clause and answers nothing.
+ghost use Rattle.std.specs.Prelude.{List};
 ghost use Rattle.pv_ast.specs.declared.Program.{Program};
 ghost use Rattle.pv_rules.specs.Programs.{KeepsRules};
 ghost use Rattle.pv_picks.specs.Programs.{core_of};
 ghost use Rattle.pv_picks.specs.Resolved.{IsResolved};
 ghost use Rattle.pv_picks.specs.Messages.{IsMatched};
+ghost use Rattle.pv_picks.specs.declared.verdict.Verdict.{Verdict};
+ghost use Rattle.pv_picks.specs.Theorems.{AreVerdicts, AreGood, IsVerified};
 
 /// In what a program becomes that keeps the static rules, each name of a class and of a member is declared, and used as it is
 /// declared; and each variable that is named is in scope there.
@@ -14,4 +17,9 @@ pub fn resolves_well_formed()
 /// In what such a program becomes, each message that the body of a counted loop receives is one that it sends.
 pub fn receives_what_is_sent()
     ensures { (p : Program) → KeepsRules p → IsMatched (core_of p) }
+{}
+
+/// Where each verdict on a program has its ground, and is Pass or Empty, no evidence makes the judge fail on any of its units.
+pub fn good_verdicts_verify()
+    ensures { (p : Program) (verdicts : List Verdict) → AreVerdicts p verdicts → AreGood verdicts → IsVerified p }
 {}
