@@ -60,13 +60,15 @@ module _ (p : Program) (w : World) (i : ℕ) (f : Frame) (below : List Frame) wh
   kept label r same finds h =
       as_before (λ v. v.heap ≡ w.heap) (λ v. IsHeapStep p (Some label) w.heap v.heap) r (λ v e. record { finds = finds; after = e ∙ sym same }) h
 
-  read_keeps : (v : Option Value) (spot : Spot) (span : Span) (rest : List Task) → Keeps (read p w i f below v spot span rest)
-  read_keeps None spot span rest = tt
-  read_keeps (Some v) spot span rest = refl
+  read_does : (v : Option Value) (spot : Spot) (span : Span) (rest : List Task) → w.heap.value (location_on spot f.values) ≡ v
+      → Does (Label.Read (location_on spot f.values)) (read p w i f below v spot span rest)
+  read_does None spot span rest e = tt
+  read_does (Some v) spot span rest e = record { finds = subst (λ o. IsSome o) (sym e) refl; after = refl }
 
-  length_keeps : (n : Option ℤ) (span : Span) (rest : List Task) → Keeps (act_length p w i f below n span rest)
-  length_keeps None span rest = tt
-  length_keeps (Some n) span rest = refl
+  length_does : (n : Option ℤ) (span : Span) (rest : List Task) → w.heap.length (reference_in (top f.values)) ≡ n
+      → Does (Label.Length (reference_in (top f.values))) (act_length p w i f below n span rest)
+  length_does None span rest e = tt
+  length_does (Some n) span rest e = record { finds = subst (λ o. IsSome o) (sym e) refl; after = refl }
 
   fold_keeps : (d : Option Predicate) (object count : ℕ) (span : Span) (rest : List Task) → Keeps (act_fold p w i f below d object count span rest)
   fold_keeps None object count span rest = tt
@@ -191,18 +193,16 @@ module _ (p : Program) (w : World) (i : ℕ) (f : Frame) (below : List Frame) wh
   step_does : (mode : Mode) (step : Step) (rest : List Task) (position : ℤ)
       → Does (label_of_step step f.values position) (act_step p w i f below mode step rest)
   step_does mode (AtRead spot span) rest position =
-      kept (Label.Read (location_on spot f.values)) (act_step p w i f below mode (AtRead spot span) rest) refl tt
-      (needs_keep (not_null (owner_of (location_on spot f.values))) check.Null span
-      (read p w i f below (w.heap.value (location_on spot f.values)) spot span rest)
-      (read_keeps (w.heap.value (location_on spot f.values)) spot span rest))
+      let location : Location = location_on spot f.values in
+      needs_goes (λ v. IsHeapStep p (Some (Label.Read location)) w.heap v.heap) (not_null (owner_of location)) check.Null span
+      (read p w i f below (w.heap.value location) spot span rest) (read_does (w.heap.value location) spot span rest refl)
   step_does mode (AtWrite spot span) rest position =
       let location : Location = location_on spot (drop 1 f.values) in
       needs_goes (λ v. IsHeapStep p (Some (Label.Write location (top f.values))) w.heap v.heap) (not_null (owner_of location)) check.Null span
       (write p w i f below (w.heap.value location) location (suc (breadth spot)) span rest)
       (write_does (w.heap.value location) location (suc (breadth spot)) span rest refl)
   step_does mode (AtLength type span) rest position =
-      kept (Label.Length (reference_in (top f.values))) (act_step p w i f below mode (AtLength type span) rest) refl tt
-      (length_keeps (w.heap.length (reference_in (top f.values))) span rest)
+      length_does (w.heap.length (reference_in (top f.values))) span rest refl
   step_does mode (AtNewObject class) rest position = record { finds = tt; after = refl }
   step_does mode (AtNewArray type span) rest position = array_does (number_in (top f.values)) type span rest
   step_does mode (AtAssert formula) rest position =

@@ -14,9 +14,11 @@ heap_after p (Some (Label.NewObject class)) heap = with_object heap class (first
 heap_after p (Some (Label.NewArray type (pos n))) heap = with_array heap (default_of type) n
 heap_after p _ heap = heap
 
--- where the label is a write, its location has a value
+-- what a read, a write and a length are of is there
 abbrev pub Finds : Heap → Option Label → Type 0
+Finds heap (Some (Label.Read location)) = IsSome (heap.value location)
 Finds heap (Some (Label.Write location value)) = IsSome (heap.value location)
+Finds heap (Some (Label.Length array)) = IsSome (heap.length array)
 Finds heap _ = Unit {0}
 
 -- from one heap to another, as a label says

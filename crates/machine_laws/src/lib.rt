@@ -62,7 +62,7 @@ pub fn who_has_not_ended_has_a_label()
     ensures { (p : Program) (w : World) → IsReached p w → (j : ℕ) → has_ended w j ≡ false → IsSome (next (w.threads j)) }
 {}
 
-/// A step that goes changes the heap as its label says, and a write finds a value where it writes.
+/// A step that goes changes the heap as its label says; what it reads or writes is there, and an array whose length it takes.
 pub fn labels_say_what_becomes_of_the_heap()
     ensures { (p : Program) (w v : World) (mode : Mode) (i : ℕ) → act p w mode i ≡ Result.Went v → IsHeapStep p (next (w.threads i)) w.heap v.heap }
 {}

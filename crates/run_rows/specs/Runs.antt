@@ -9,7 +9,7 @@ use Rattle.pv_meaning.specs.Core.{Stop, Method, Program}
 use Rattle.pv_meaning.specs.Members.{method_named}
 use Rattle.pv_meaning.specs.Worlds.{Mode, Free, Ordered, World}
 use Rattle.pv_meaning.specs.Steps.{Result, act}
-use Rattle.pv_meaning.specs.Starts.{Start, first_world, no_formula}
+use Rattle.pv_meaning.specs.Starts.{Start, first_world, true_formula}
 use Rattle.pv_meaning.specs.Safety.{Race, run_events, world_after}
 use Rattle.pv_meaning.specs.LoopRuns.{StandsAtLoop, IsLoopRun}
 use Rattle.meaning_rows.specs.Schedules.{Ran, event, go, rest, begin, all_ended, first_able, values_at}
@@ -24,7 +24,7 @@ whole_number n = Number (pos n)
 
 -- what stands where no method is declared
 abbrev pub no_method : Method
-no_method = record { name = None; parameters = []; result = None; contract = record { before = no_formula; after = no_formula }; body = Stop; old = false }
+no_method = record { name = None; parameters = []; result = None; contract = record { before = true_formula; after = true_formula }; body = Stop; old = false }
 
 abbrev pub or_no_method : Option Method → Method
 or_no_method None = no_method

@@ -6,7 +6,7 @@ use Rattle.pv_base.specs.declared.Span.{Span}
 use Rattle.pv_ast.specs.declared.PvType.TheVariants.{Int}
 use Rattle.pv_values.specs.declared.value.Value.TheVariants as value
 use Rattle.pv_meaning.specs.Core.{Plain, Plus, Constant, This, Variable, Compute, ToVariable, ToField, Value', Call, Assign, Return, Block, Stop, Then, IsField, IsMethod, Method, Class, Program}
-use Rattle.pv_meaning.specs.Starts.{no_formula}
+use Rattle.pv_meaning.specs.Starts.{true_formula}
 
 abbrev pub named : ℕ → Name
 named n = record { 0 = n }
@@ -29,7 +29,7 @@ next_method = record {
   name = Some (named 2);
   parameters = (named 3, Int) ∷ [];
   result = Some Int;
-  contract = record { before = no_formula; after = no_formula };
+  contract = record { before = true_formula; after = true_formula };
   body = next_body;
   old = false;
 }
