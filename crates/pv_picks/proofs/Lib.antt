@@ -16,3 +16,4 @@ pub mod Stmts
 pub mod Whole
 pub mod Matching
 pub mod Terms
+pub mod Confining
