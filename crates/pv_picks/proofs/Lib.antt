@@ -17,3 +17,4 @@ pub mod Whole
 pub mod Matching
 pub mod Terms
 pub mod Confining
+pub mod ConfiningStmts
