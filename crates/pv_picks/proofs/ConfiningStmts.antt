@@ -164,14 +164,164 @@ silent : {around : shapes.Around} {faults_at : Spot → Faults} {statement_at : 
     → ((position : Option Name) (spot : Spot) (site : Site) → Clean (faults_at spot) → Looped spot around → Placed position around site → AllConfined site.messages → ConfinedStatement position (statement_at site)) → Done around faults_at statement_at (λ there. [])
 silent h = record { statement = h; sent = λ there loop. tt }
 
+still_placed : (position : Option Name) (around inner : shapes.Around) (site further : Site) → inner.block ≡ around.block → further.position ≡ site.position → Placed position around site → Placed position inner further
+still_placed None around inner site further same there h = tt
+still_placed (Some name) around inner site further same there h = (same ∙ h.0, there ∙ h.1)
+
 block_law : (ss : List Stmts) (n : ℕ) (a : Around) (v : Visible) (around : shapes.Around) → shapes_of ss around ≡ [] → (position : Option Name) (spot : Spot) (site : Site) → Clean (faults_of_statements (parts_in (pieces ss)) a v spot)
     → Looped spot around → Placed position around site → AllConfined site.messages → ConfinedBlock position (block_from n (pieces ss) a v site)
 block_law [] n a v around none position spot site clean looped placed told = tt
 block_law (s ∷ ss) n a v around none position spot site clean looped placed told = (
-  (s.1 a v around (no_first (faults_of_stmt s.0 around) (shapes_of ss around) none)).statement position spot (at n site) clean.0 looped (further position placed) told,
+  (s.1 a v around (no_first (faults_of_stmt s.0 around) (shapes_of ss around) none)).statement position spot (at n site) clean.0 looped (still_placed position around around site (at n site) refl refl placed) told,
   block_law ss (n + 1) a ((piece_of_stmt s.0).part.behind v) around (no_second (faults_of_stmt s.0 around) (shapes_of ss around) none) position spot site clean.1 looped placed told,
 )
-  where
-    further : (position : Option Name) → Placed position around site → Placed position around (at n site)
-    further None h = tt
-    further (Some name) h = h
+
+-- Messages
+
+messages_append : (ms ns : List Message) → AllConfined ms → AllConfined ns → AllConfined (ms ++ ns)
+messages_append [] ns h k = k
+messages_append (m ∷ ms) ns h k = (h.0, messages_append ms ns h.1 k)
+
+sent_law : (ss : List Stmts) (a : Around) (v there : Visible) (around : shapes.Around) → shapes_of ss around ≡ [] → is_some around.loop ≡ true → AllConfined (sent_in (pieces ss) a there)
+sent_law [] a v there around none loop = tt
+sent_law (s ∷ ss) a v there around none loop =
+    messages_append ((piece_of_stmt s.0).sent a there) (sent_in (pieces ss) a there)
+    ((s.1 a v around (no_first (faults_of_stmt s.0 around) (shapes_of ss around) none)).sent there loop)
+    (sent_law ss a v there around (no_second (faults_of_stmt s.0 around) (shapes_of ss around) none) loop)
+
+message_if : (b : Bool) (m n : Message) → ConfinedFormula m.formula → ConfinedFormula n.formula → ConfinedFormula (if b then m else n).formula
+message_if true m n h k = h
+message_if false m n h k = k
+
+received_confined : (ms : List Message) (label : Name) → AllConfined ms → ConfinedFormula (message_of ms label).formula
+received_confined [] label h = tt
+received_confined (m ∷ ms) label h = message_if (same_name label m.label) m (message_of ms label) h.0 (received_confined ms label h.1)
+
+message_confined : (e : Expr) (a : Around) (v : Visible) (loop : Option ℕ) → is_some loop ≡ true → faults_of_message loop e ≡ [] → ConfinedFormula (core_of_formula a v e)
+message_confined e a v None is none = absurd cc
+message_confined e a v (Some n) is none = (both_confined e (record { 0 = n }) a v none).0
+
+loop_from : (a b : Bool) → (not a || b) ≡ false → a ≡ true
+loop_from true b h = refl
+loop_from false b h = absurd cc
+
+loop_place : (spot : Spot) (span : Span) → Clean (faults_of_message_place spot span) → is_loop spot.surround ≡ true
+loop_place spot span clean = loop_from (is_loop spot.surround) spot.repeated (if_fails (not (is_loop spot.surround) || spot.repeated) rule.MessagePlace span clean)
+
+-- Kinds
+
+abbrev without : StmtKind-F Kinds Stmts → StmtKind-F StmtKind Stmt
+without = map-StmtKind Kinds Stmts StmtKind Stmt (λ e. e.0) (λ e. e.0)
+
+abbrev shape_layer : StmtKind-F StmtKind Stmt → StmtKind-F (shapes.Around → List ShapeFault) (shapes.Around → List ShapeFault)
+shape_layer = map-StmtKind StmtKind Stmt (shapes.Around → List ShapeFault) (shapes.Around → List ShapeFault) faults_of_stmt_kind faults_of_stmt
+
+abbrev LayerLaw : StmtKind-F Kinds Stmts → Type 0
+LayerLaw y = KindLaw (piece_in_stmt_kind (layer_of (without y))) (faults_in_stmt_kind (shape_layer (without y)))
+
+if_law : (e : Expr) (first second : List Stmts) → LayerLaw (StmtKind-F.If e first second)
+if_law e first second = λ span a v around none.
+    let before : quantifiers_in e ++ shapes_of first around ≡ [] = no_first (quantifiers_in e ++ shapes_of first around) (shapes_of second around) none in
+    let one : shapes_of first around ≡ [] = no_second (quantifiers_in e) (shapes_of first around) before in
+    let two : shapes_of second around ≡ [] = no_second (quantifiers_in e ++ shapes_of first around) (shapes_of second around) none in
+    record {
+      statement = λ position spot site clean looped placed told. (
+        block_law first 0 a v around one position (in_branch spot) (at 0 site) clean.1.0 looped (still_placed position around around site (at 0 site) refl refl placed) told,
+        block_law second 0 a v around two position (in_branch spot) (at 1 site) clean.1.1 looped (still_placed position around around site (at 1 site) refl refl placed) told,
+      );
+      sent = λ there loop. messages_append (sent_in (pieces first) a there) (sent_in (pieces second) a there) (sent_law first a v there around one loop) (sent_law second a v there around two loop);
+    }
+
+while_law : (es : List Expr) (e : Expr) (body : List Stmts) → LayerLaw (StmtKind-F.While es e body)
+while_law es e body = λ span a v around none.
+    let before : List ShapeFault = faults_of_formulas es ++ quantifiers_in e in
+    let within : shapes_of body around ≡ [] = no_second before (shapes_of body around) none in
+    record {
+      statement = λ position spot site clean looped placed told. (
+        formulas_confined es a v (no_first (faults_of_formulas es) (quantifiers_in e) (no_first before (shapes_of body around) none)),
+        block_law body 0 a v around within position (in_while spot) (at 0 site) clean.1.1 looped (still_placed position around around site (at 0 site) refl refl placed) told,
+      );
+      sent = λ there loop. sent_law body a v there around within loop;
+    }
+
+for_law : (range : Range) (c : Contract) (body : List Stmts) → LayerLaw (StmtKind-F.For range c body)
+for_law range c body = λ span a v around none.
+    let inner : shapes.Around = record around { loop = Some range.name.name.0 } in
+    let further : List ShapeFault = shapes_of body inner in
+    let contract : List ShapeFault = faults_of_item_contract range.name.name.0 c in
+    let before : quantifiers_in_range range ++ contract ≡ [] = no_first (quantifiers_in_range range ++ contract) further none in
+    let within : further ≡ [] = no_second (quantifiers_in_range range ++ contract) further none in
+    let inside : Visible = inside_for v range in
+    silent (λ position spot site clean looped placed told. (
+      shared_confined range.name.name c a inside (no_second (quantifiers_in_range range) contract before),
+      block_law body 0 a inside inner within position (among_members surround.Loop spot) (in_for a inside (pieces body) (at 0 site)) clean.1.1.1.0.1 (λ loop. refl)
+      (still_placed position around inner site (in_for a inside (pieces body) (at 0 site)) refl refl placed) (sent_law body a inside inside inner within refl),
+    ))
+
+par_law : (o : Option Word) (range : Range) (c : Contract) (body : List Stmts) → LayerLaw (StmtKind-F.Par o range c body)
+par_law o range c body = λ span a v around none.
+    let inner : shapes.Around = record around { block = Some range.name.name.0 } in
+    let further : List ShapeFault = shapes_of body inner in
+    let contract : List ShapeFault = faults_of_item_contract range.name.name.0 c in
+    let before : quantifiers_in_range range ++ contract ≡ [] = no_first (quantifiers_in_range range ++ contract) further none in
+    let within : further ≡ [] = no_second (quantifiers_in_range range ++ contract) further none in
+    let inside : Visible = inside_par v o range in
+    record {
+      statement = λ position spot site clean looped placed told. (
+        shared_confined range.name.name c a inside (no_second (quantifiers_in_range range) contract before),
+        block_law body 0 a inside inner within (Some range.name.name) (among_members surround.Block spot) (in_par range (at 0 site)) clean.1.1.1.1.1 (λ loop. absurd (let no : false ≡ true = loop in cc)) (refl, refl) told,
+      );
+      sent = λ there loop. sent_law body a inside there inner within loop;
+    }
+
+barrier_law : (position : Option Name) (c : Contract) (a : Around) (v : Visible) (around : shapes.Around) (site : Site) → shapes.faults_of_barrier around.block c ≡ [] → Placed position around site → ConfinedBarrier position (core_of_shared site.position a v c)
+barrier_law None c a v around site none placed = tt
+barrier_law (Some name) c a v around site none placed =
+    subst (λ (n : Name). ConfinedShared name (core_of_shared n a v c)) (sym placed.1)
+    (shared_confined name c a v (subst (λ (o : Option ℕ). shapes.faults_of_barrier o c ≡ []) placed.0 none))
+
+-- The induction
+
+layer_law : (y : StmtKind-F Kinds Stmts) → LayerLaw y
+layer_law (StmtKind-F.Local type w value) = λ span a v around none. silent (λ position spot site clean looped placed told. tt)
+layer_law (StmtKind-F.Assign to value) = λ span a v around none. silent (λ position spot site clean looped placed told. tt)
+layer_law (StmtKind-F.Call target w args) = λ span a v around none. silent (λ position spot site clean looped placed told. tt)
+layer_law (StmtKind-F.If e first second) = if_law e first second
+layer_law (StmtKind-F.While es e body) = while_law es e body
+layer_law (StmtKind-F.For range c body) = for_law range c body
+layer_law (StmtKind-F.Par o range c body) = par_law o range c body
+layer_law (StmtKind-F.Barrier w c) = λ span a v around none. silent (λ position spot site clean looped placed told. barrier_law position c a v around site none placed)
+layer_law (StmtKind-F.Fork e) = λ span a v around none. silent (λ position spot site clean looped placed told. tt)
+layer_law (StmtKind-F.Join e) = λ span a v around none. silent (λ position spot site clean looped placed told. tt)
+layer_law (StmtKind-F.Lock e) = λ span a v around none. silent (λ position spot site clean looped placed told. tt)
+layer_law (StmtKind-F.Unlock e) = λ span a v around none. silent (λ position spot site clean looped placed told. tt)
+layer_law (StmtKind-F.Commit e) = λ span a v around none. silent (λ position spot site clean looped placed told. tt)
+layer_law (StmtKind-F.Fold target w args) = λ span a v around none. silent (λ position spot site clean looped placed told. tt)
+layer_law (StmtKind-F.Unfold target w args) = λ span a v around none. silent (λ position spot site clean looped placed told. tt)
+layer_law (StmtKind-F.Assert e) = λ span a v around none. silent (λ position spot site clean looped placed told. formula_confined e a v none)
+layer_law (StmtKind-F.Send w n e) = λ span a v around none. record {
+  statement = λ position spot site clean looped placed told. message_confined e a site.head around.loop (looped (loop_place spot span clean.0)) none;
+  sent = λ there loop. (message_confined e a there around.loop loop none, tt);
+}
+layer_law (StmtKind-F.Recv w) = λ span a v around none. silent (λ position spot site clean looped placed told. received_confined site.messages w.name told)
+layer_law (StmtKind-F.Return value) = λ span a v around none. silent (λ position spot site clean looped placed told. tt)
+
+kind_step : (x : StmtKind-F StmtKind Stmt) (y : StmtKind-F Kinds Stmts) → without y ≡ x → KindLaw (piece_of_stmt_kind (roll-StmtKind x)) (faults_of_stmt_kind (roll-StmtKind x))
+kind_step x y is =
+    subst (λ (k : StmtKindPiece). KindLaw k (faults_of_stmt_kind (roll-StmtKind x))) (sym (kind_at_roll x))
+    (subst (λ (f : shapes.Around → List ShapeFault). KindLaw (piece_in_stmt_kind (layer_of x)) f) (sym (fold-roll-StmtKind (shapes.Around → List ShapeFault) (shapes.Around → List ShapeFault) faults_in_stmt_kind faults_in_stmt x))
+    (subst (λ (z : StmtKind-F StmtKind Stmt). KindLaw (piece_in_stmt_kind (layer_of z)) (faults_in_stmt_kind (shape_layer z))) is (layer_law y)))
+
+stmt_law : (span : Span) (k : StmtKindPiece) (shape : shapes.Around → List ShapeFault) → KindLaw k shape → StmtLaw (piece_in_stmt (record { span = span; kind = k })) shape
+stmt_law span k shape law = λ a v around none. law span a v around none
+
+stmt_step : (x : Stmt-F StmtKind Stmt) (y : Stmt-F Kinds Stmts) → map-Stmt Kinds Stmts StmtKind Stmt (λ e. e.0) (λ e. e.0) y ≡ x → StmtLaw (piece_of_stmt (roll-Stmt x)) (faults_of_stmt (roll-Stmt x))
+stmt_step x y is =
+    subst (λ (s : StmtPiece). StmtLaw s (faults_of_stmt (roll-Stmt x))) (sym (stmt_at_roll x))
+    (subst (λ (f : shapes.Around → List ShapeFault). StmtLaw (piece_in_stmt (map-Stmt StmtKind Stmt StmtKindPiece StmtPiece piece_of_stmt_kind piece_of_stmt x)) f) (sym (fold-roll-Stmt (shapes.Around → List ShapeFault) (shapes.Around → List ShapeFault) faults_in_stmt_kind faults_in_stmt x))
+    (subst (λ (z : Stmt-F StmtKind Stmt). StmtLaw (piece_in_stmt (map-Stmt StmtKind Stmt StmtKindPiece StmtPiece piece_of_stmt_kind piece_of_stmt z)) (faults_of_stmt_kind z.kind)) is
+    (stmt_law y.span (piece_of_stmt_kind y.kind.0) (faults_of_stmt_kind y.kind.0) y.kind.1)))
+
+-- each statement without a fault of shape becomes one in which positions stand only where they are read
+pub statement_law : (s : Stmt) → StmtLaw (piece_of_stmt s) (faults_of_stmt s)
+statement_law = ind-Stmt (λ k. KindLaw (piece_of_stmt_kind k) (faults_of_stmt_kind k)) (λ s. StmtLaw (piece_of_stmt s) (faults_of_stmt s)) kind_step stmt_step
