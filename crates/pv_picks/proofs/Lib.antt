@@ -18,3 +18,4 @@ pub mod Matching
 pub mod Terms
 pub mod Confining
 pub mod ConfiningStmts
+pub mod ConfiningWhole

@@ -1,8 +1,10 @@
 //! Laws of what programs become: each is a function that proves its clause and answers nothing.
 ghost use Rattle.pv_ast.specs.declared.Program.{Program};
 ghost use Rattle.pv_rules.specs.Programs.{KeepsRules};
+ghost use Rattle.pv_rules.specs.WellFormed.{IsWellFormed};
 ghost use Rattle.pv_picks.specs.Programs.{core_of};
 ghost use Rattle.pv_picks.specs.Resolved.{IsResolved};
+ghost use Rattle.pv_picks.specs.Positions.{IsConfined};
 ghost use Rattle.pv_picks.specs.Messages.{IsMatched};
 
 /// In what a program becomes that keeps the static rules, each name of a class and of a member is declared, and used as it is
@@ -11,7 +13,13 @@ pub fn resolves_well_formed()
     ensures { (p : Program) → KeepsRules p → IsResolved (core_of p) }
 {}
 
-/// In what such a program becomes, each message that the body of a counted loop receives is one that it sends.
+/// In what a well formed program becomes, what an item reads once for all positions doesn't name the position: arrays of
+/// permissions, objects of `committed`, the terms and conditions of guards, and terms that fix the position.
+pub fn confines_positions()
+    ensures { (p : Program) → IsWellFormed p → IsConfined (core_of p) }
+{}
+
+/// In what a program becomes that keeps the static rules, each message that the body of a counted loop receives is one that it sends.
 pub fn receives_what_is_sent()
     ensures { (p : Program) → KeepsRules p → IsMatched (core_of p) }
 {}
