@@ -19,3 +19,4 @@ pub mod Terms
 pub mod Confining
 pub mod ConfiningStmts
 pub mod ConfiningWhole
+pub mod Outside
