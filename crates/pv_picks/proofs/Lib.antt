@@ -20,3 +20,4 @@ pub mod Confining
 pub mod ConfiningStmts
 pub mod ConfiningWhole
 pub mod Outside
+pub mod Settling

@@ -138,7 +138,7 @@ name_kept tree names a v span name (Some d) h sound here known =
 
 -- Fields and lengths
 
-object_if : (length : Bool) (t : Typing) → typing.meets (if length then AnObjectOrArray else AnObject) t ≡ true → (typing.meets AnArray t && length) ≡ false → typing.meets AnObject t ≡ true
+pub object_if : (length : Bool) (t : Typing) → typing.meets (if length then AnObjectOrArray else AnObject) t ≡ true → (typing.meets AnArray t && length) ≡ false → typing.meets AnObject t ≡ true
 object_if false t h k = h
 object_if true (Typed (Object class)) h k = refl
 object_if true (Typed IntArray) h k = absurd cc
@@ -181,7 +181,7 @@ member_by tree names a s span name e false h f =
 
 -- Threads and locks
 
-not_false : (b : Bool) → not b ≡ false → b ≡ true
+pub not_false : (b : Bool) → not b ≡ false → b ≡ true
 not_false true h = refl
 not_false false h = absurd cc
 
