@@ -1,5 +1,6 @@
 -- A well formed program becomes a plain tree in which positions stand only where they are read.
-use Rattle.std.proofs.Common.{◌≡◌, ℕ, ◌+◌, Bool, true, false, Option, Some, None, option_map, List, [], ◌∷◌, map, refl, sym, ◌∙◌, subst}
+use Rattle.std.proofs.Common.{◌≡◌, ℕ, ◌+◌, Bool, true, false, Option, Some, None, option_map, List, [], ◌∷◌, map, refl, sym, subst}
+use Rattle.std.proofs.lemmas.Bool.{both_ways}
 use Rattle.std.specs.List.{flat_map, AllByRecursion}
 use Rattle.pv_ast.specs.declared.Expr.{Expr}
 use Rattle.pv_ast.specs.declared.Stmt.{Stmt}
@@ -13,8 +14,8 @@ use Rattle.pv_rules.specs.Scoping.{Visible, nothing_visible}
 use Rattle.pv_rules.specs.Parts.{Around}
 use Rattle.pv_rules.specs.Shapes as shapes
 use Rattle.pv_rules.specs.Shapes.{faults_of_stmt, faults_of_block, faults_of_contract, faults_of_invariant, outside}
-use Rattle.pv_rules.specs.Statements.{StmtPart, faults_of_body, parts_of_block, is_nothing, is_loop}
-use Rattle.pv_rules.specs.Programs.{in_class, with_params, faults_of_member, faults_of_members, faults_of_class, faults_of_classes, faults_of_program, at_body}
+use Rattle.pv_rules.specs.Statements.{StmtPart, faults_of_body, parts_of_block, is_nothing, is_loop, in_condition}
+use Rattle.pv_rules.specs.Programs.{in_class, with_params, faults_of_member, faults_of_members, faults_of_lock_invariant, faults_of_class, faults_of_classes, faults_of_program, at_body}
 use Rattle.pv_rules.specs.WellFormed.{IsWellFormed}
 use Rattle.pv_picks.specs.Pieces.{core_of_formula}
 use Rattle.pv_picks.specs.Statements.{Site, at, block_from, outermost, piece_of_stmt, core_of_body}
@@ -23,19 +24,22 @@ use Rattle.pv_picks.specs.Positions.{ConfinedBlock, ConfinedMember, ConfinedInva
 use Rattle.pv_picks.proofs.Clean.{Clean, clean_from}
 use Rattle.pv_picks.proofs.StmtLayers.{parts_in_pieces}
 use Rattle.pv_picks.proofs.Confining.{no_first, no_second}
-use Rattle.pv_picks.proofs.ConfiningStmts.{AllConfined, Looped, formula_confined, contract_confined, statement_law}
+use Rattle.pv_picks.proofs.ConfiningStmts.{AllConfined, Looped, AtSite, formula_confined, contract_confined, statement_law}
 
 -- Bodies
 
 not_a_loop : (spot : Spot) → is_loop spot.surround ≡ false → Looped spot outside
-not_a_loop spot none = λ loop. let no : true ≡ false = sym loop ∙ none in cc
+not_a_loop spot none = λ loop. absurd (both_ways (is_loop spot.surround) none loop)
+
+no_site : (v : Visible) (spot : Spot) (site : Site) → is_loop spot.surround ≡ false → AtSite v spot site
+no_site v spot site none = λ loop. absurd (both_ways (is_loop spot.surround) none loop)
 
 body_confined : (ss : List Stmt) (n : ℕ) (a : Around) (v : Visible) (spot : Spot) (site : Site) → is_loop spot.surround ≡ false → site.messages ≡ [] → Clean (faults_of_body (map (λ s. s.part) (map piece_of_stmt ss)) a v spot) → faults_of_block ss outside ≡ []
     → ConfinedBlock None (block_from n (map piece_of_stmt ss) a v site)
 body_confined [] n a v spot site no_loop no_messages clean none = tt
 body_confined (s ∷ ss) n a v spot site no_loop no_messages clean none =
     let here : Spot = record spot { last = is_nothing (map (λ s. s.part) (map piece_of_stmt ss)) } in (
-      (statement_law s a v outside (no_first (faults_of_stmt s outside) (faults_of_block ss outside) none)).statement None here (at n site) clean.0 (not_a_loop here no_loop) tt (subst AllConfined (sym no_messages) tt),
+      (statement_law s a v outside (no_first (faults_of_stmt s outside) (faults_of_block ss outside) none)).statement None here (at n site) clean.0 (not_a_loop here no_loop) (no_site v here (at n site) no_loop) tt (subst AllConfined (sym no_messages) tt),
       body_confined ss (n + 1) a ((piece_of_stmt s).part.behind v) spot site no_loop no_messages clean.1 (no_second (faults_of_stmt s outside) (faults_of_block ss outside) none),
     )
 
@@ -47,17 +51,17 @@ whole_body a v method ss clean none =
 
 member_confined : (a : Around) (m : Member) → Clean (faults_of_member a m) → shapes.faults_of_member m ≡ [] → ConfinedMember (core_of_member a m)
 member_confined a (member.Field f) clean none = tt
-member_confined a (member.Predicate q) clean none = formula_confined q.body a (with_params nothing_visible q.params) none
+member_confined a (member.Predicate q) clean none = formula_confined q.body a (with_params nothing_visible q.params) in_condition clean.1 none
 member_confined a (member.Method m) clean none =
     let contract : List ShapeFault = faults_of_contract m.contract in
     let body : List ShapeFault = faults_of_block m.body outside in (
-      contract_confined m.contract (in_method a m) (parameters_in_scope m) (no_first contract body none),
+      contract_confined m.contract (in_method a m) (parameters_in_scope m) _ _ clean.1.1.0 (no_first contract body none),
       whole_body (in_method a m) (parameters_in_scope m) true m.body clean.1.1.1.0 (no_second contract body none),
     )
 member_confined a (member.Run r) clean none =
     let contract : List ShapeFault = faults_of_contract r.contract in
     let body : List ShapeFault = faults_of_block r.body outside in
-    (contract_confined r.contract a nothing_visible (no_first contract body none), whole_body a nothing_visible false r.body clean.1 (no_second contract body none))
+    (contract_confined r.contract a nothing_visible _ _ clean.0 (no_first contract body none), whole_body a nothing_visible false r.body clean.1 (no_second contract body none))
 
 members_confined : (a : Around) (ms : List Member) → Clean (faults_of_members a ms) → flat_map shapes.faults_of_member ms ≡ [] → AllByRecursion ConfinedMember (map (core_of_member a) ms)
 members_confined a [] clean none = tt
@@ -68,15 +72,15 @@ members_confined a (m ∷ ms) clean none = (
 
 -- Classes
 
-invariant_confined : (a : Around) (o : Option Expr) → faults_of_invariant o ≡ [] → ConfinedInvariant (option_map (core_of_formula a nothing_visible) o)
-invariant_confined a None none = tt
-invariant_confined a (Some e) none = formula_confined e a nothing_visible none
+invariant_confined : (a : Around) (o : Option Expr) → Clean (faults_of_lock_invariant a o) → faults_of_invariant o ≡ [] → ConfinedInvariant (option_map (core_of_formula a nothing_visible) o)
+invariant_confined a None clean none = tt
+invariant_confined a (Some e) clean none = formula_confined e a nothing_visible in_condition clean none
 
 class_confined : (p : Program) (c : Class) → Clean (faults_of_class p c) → shapes.faults_of_class c ≡ [] → ConfinedClass (core_of_class p c)
 class_confined p c clean none =
     let invariant : List ShapeFault = faults_of_invariant c.lock_invariant in
     let members : List ShapeFault = flat_map shapes.faults_of_member c.members in
-    (invariant_confined (in_class p c) c.lock_invariant (no_first invariant members none), members_confined (in_class p c) c.members clean.1.1.1 (no_second invariant members none))
+    (invariant_confined (in_class p c) c.lock_invariant clean.0 (no_first invariant members none), members_confined (in_class p c) c.members clean.1.1.1 (no_second invariant members none))
 
 classes_confined : (p : Program) (cs : List Class) → Clean (faults_of_classes p cs) → flat_map shapes.faults_of_class cs ≡ [] → AllByRecursion ConfinedClass (map (core_of_class p) cs)
 classes_confined p [] clean none = tt

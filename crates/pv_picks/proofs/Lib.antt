@@ -15,6 +15,7 @@ pub mod StmtLayers
 pub mod Stmts
 pub mod Whole
 pub mod Matching
+pub mod Looks
 pub mod Terms
 pub mod Confining
 pub mod ConfiningStmts

@@ -6,6 +6,7 @@ use Rattle.pv_base.specs.declared.Name.{Name}
 use Rattle.pv_rules.specs.Lookup.{same_name}
 use Rattle.pv_meaning.specs.Core.{Program, Class, Member, Contract, Shared, Expression, Cut, Formula, Items, Item, Statement, Block}
 use Rattle.pv_meaning.specs.Core as core
+use Rattle.pv_meaning.specs.Repetitions.{Look, AtElements, AtElement, AtLength, AtTerm, looks_of}
 
 -- Expressions
 
@@ -38,10 +39,17 @@ IsTermCut name (core.Above e) = IsTerm name e
 IsTermCut name (core.From e) = IsTerm name e
 IsTermCut name (core.Provided e) = IsTerm name e
 
+-- what a run looks at before it repeats a condition
+abbrev pub IsTermLook : Name → Look → Type 0
+IsTermLook name (AtElements type array shift) = IsTerm name array
+IsTermLook name (AtElement type array index) = IsTerm name array × IsTerm name index
+IsTermLook name (AtLength type array) = IsTerm name array
+IsTermLook name (AtTerm e) = IsTerm name e
+
 -- Formulas
 
--- a quantifier's items are those at the position of its name; a condition that is repeated may name the position, and so may a
--- formula at the one position that a term names
+-- a quantifier's items are those at the position of its name; a condition that is repeated may name the position, but not where a
+-- run looks before it repeats it; a formula at the one position that a term names may name it too
 abbrev mutual
   pub ConfinedFormula : Formula → Type 0
   ConfinedFormula (core.Fact e span) = Unit {0}
@@ -59,7 +67,7 @@ abbrev mutual
 
   pub ConfinedItem : Name → Item → Type 0
   ConfinedItem name (core.Elements type e shift units span) = IsTerm name e
-  ConfinedItem name (core.Repeated e span) = Unit {0}
+  ConfinedItem name (core.Repeated e span) = AllByRecursion (IsTermLook name) (looks_of name e)
   ConfinedItem name (core.Committed class e span) = IsTerm name e
   ConfinedItem name (core.Guarded cuts i span) = AllByRecursion (IsTermCut name) cuts × ConfinedItem name i
   ConfinedItem name (core.Fixed e f span) = IsTerm name e × ConfinedFormula f
