@@ -38,6 +38,7 @@ use Rattle.pv_picks.specs.Positions.{mentions, IsTerm, ConfinedFormula, Confined
 use Rattle.pv_picks.proofs.Clean.{Clean}
 use Rattle.pv_picks.proofs.Layers.{layer_of, each_layer_of, kind_at_roll, each_at_roll, expr_at_roll, part_in_piece}
 use Rattle.pv_picks.proofs.Settling.{settled}
+use Rattle.pv_picks.proofs.References.{is_reference, target_reference, array_reference, typed_no_reference, element_no_reference, operator_no_reference, old_reference}
 use Rattle.pv_picks.proofs.Looks.{TermLooks, term_looks, position_mentions}
 use Rattle.pv_picks.proofs.Terms.{FormSays, Says, term_says, negation_term, few_uses, operator_part, element_part, comparison_looks, permission_confined, shifted_confined, formula_if, together_confined, implied_confined}
 
@@ -59,12 +60,6 @@ part_item truth_body false t fault h = absurd cc
 part_item clause false t fault h = absurd cc
 
 -- The laws of a kind, of a quantifier and of an expression
-
--- objects, arrays and null
-abbrev pub is_reference : Typing → Bool
-is_reference Unsettled = false
-is_reference Untyped = false
-is_reference (Typed type) = not (typing.is_int type || typing.is_truth type)
 
 -- what the shape of a part says of what it becomes: of the expression, by its facts; of a reference that may stand in an item; of the
 -- formula, where quantifiers stand in right places; of all of them, where it is an item for the position; and of those that its parts
@@ -214,86 +209,6 @@ name_says name a span written o =
 member_term : (name : Name) (b : Bool) (e : Expression) (type : PvType) (class field : Name) (span : Span) → IsTerm name e → IsTerm name (if b then core.Length type e span else core.Field e class field span)
 member_term name true e type class field span h = h
 member_term name false e type class field span h = h
-
-object_or_array : (t : Typing) → typing.meets AnObjectOrArray t ≡ true → is_reference t ≡ true
-object_or_array (Typed (Object class)) h = refl
-object_or_array (Typed IntArray) h = refl
-object_or_array (Typed TruthArray) h = refl
-object_or_array (Typed Int) h = absurd cc
-object_or_array (Typed Truth) h = absurd cc
-object_or_array (Typed Null) h = absurd cc
-object_or_array Unsettled h = absurd cc
-object_or_array Untyped h = absurd cc
-
-object_reference : (t : Typing) → typing.meets AnObject t ≡ true → is_reference t ≡ true
-object_reference (Typed (Object class)) h = refl
-object_reference (Typed IntArray) h = absurd cc
-object_reference (Typed TruthArray) h = absurd cc
-object_reference (Typed Int) h = absurd cc
-object_reference (Typed Truth) h = absurd cc
-object_reference (Typed Null) h = absurd cc
-object_reference Unsettled h = absurd cc
-object_reference Untyped h = absurd cc
-
-array_reference : (t : Typing) → typing.meets AnArray t ≡ true → is_reference t ≡ true
-array_reference (Typed IntArray) h = refl
-array_reference (Typed TruthArray) h = refl
-array_reference (Typed (Object class)) h = absurd cc
-array_reference (Typed Int) h = absurd cc
-array_reference (Typed Truth) h = absurd cc
-array_reference (Typed Null) h = absurd cc
-array_reference Unsettled h = absurd cc
-array_reference Untyped h = absurd cc
-
-target_reference : (length : Bool) (t : Typing) → typing.meets (if length then AnObjectOrArray else AnObject) t ≡ true → is_reference t ≡ true
-target_reference true t h = object_or_array t h
-target_reference false t h = object_reference t h
-
--- a number or a truth value is no reference
-typed_no_reference : (b : Bool) (type : PvType) → is_reference (Typed type) ≡ false → is_reference (typing.typed_if b type) ≡ true → ⊥
-typed_no_reference true type h k = both_ways (is_reference (Typed type)) h k
-typed_no_reference false type h k = cc
-
-element_no_reference : (x i : Typing) → is_reference (typing.typing_of_element x i) ≡ true → ⊥
-element_no_reference (Typed IntArray) i h = typed_no_reference (typing.meets (Exactly Int) i) Int refl h
-element_no_reference (Typed TruthArray) i h = typed_no_reference (typing.meets (Exactly Int) i) Truth refl h
-element_no_reference (Typed Int) i h = cc
-element_no_reference (Typed Truth) i h = cc
-element_no_reference (Typed (Object class)) i h = cc
-element_no_reference (Typed Null) i h = cc
-element_no_reference Unsettled i h = cc
-element_no_reference Untyped i h = cc
-
-equality_no_reference : (b : Bool) → is_reference (if b then Typed Truth else Untyped) ≡ true → ⊥
-equality_no_reference true h = cc
-equality_no_reference false h = cc
-
-same_no_reference : (x y : Typing) → is_reference (typing.typing_of_equality x y) ≡ true → ⊥
-same_no_reference (Typed x) (Typed y) h = equality_no_reference (typing.are_comparable x y) h
-same_no_reference (Typed x) Unsettled h = cc
-same_no_reference (Typed x) Untyped h = cc
-same_no_reference Unsettled y h = cc
-same_no_reference Untyped y h = cc
-
-operator_no_reference : (o : Operator) (x y : Typing) → is_reference (typing.typing_of_operator o x y) ≡ true → ⊥
-operator_no_reference op.Add x y h = typed_no_reference (typing.both_meet (Exactly Int) x y) Int refl h
-operator_no_reference op.Sub x y h = typed_no_reference (typing.both_meet (Exactly Int) x y) Int refl h
-operator_no_reference op.Mul x y h = typed_no_reference (typing.both_meet (Exactly Int) x y) Int refl h
-operator_no_reference op.Eq x y h = same_no_reference x y h
-operator_no_reference op.Ne x y h = same_no_reference x y h
-operator_no_reference op.Lt x y h = typed_no_reference (typing.both_meet (Exactly Int) x y) Truth refl h
-operator_no_reference op.Le x y h = typed_no_reference (typing.both_meet (Exactly Int) x y) Truth refl h
-operator_no_reference op.Gt x y h = typed_no_reference (typing.both_meet (Exactly Int) x y) Truth refl h
-operator_no_reference op.Ge x y h = typed_no_reference (typing.both_meet (Exactly Int) x y) Truth refl h
-operator_no_reference op.And x y h = typed_no_reference (typing.both_meet (Exactly Truth) x y) Truth refl h
-operator_no_reference op.Or x y h = typed_no_reference (typing.both_meet (Exactly Truth) x y) Truth refl h
-operator_no_reference op.Implies x y h = typed_no_reference (typing.both_meet (Exactly Truth) x y) Truth refl h
-operator_no_reference op.Star x y h = typed_no_reference (typing.both_meet (Exactly Truth) x y) Truth refl h
-
-old_reference : (t : Typing) → is_reference (typing.typing_of_old t) ≡ true → is_reference t ≡ true
-old_reference (Typed type) h = h
-old_reference Unsettled h = h
-old_reference Untyped h = absurd cc
 
 -- Threads and locks
 

@@ -16,14 +16,14 @@ use Rattle.pv_ast.specs.declared.Stmt.{Stmt, Stmt-F, ind-Stmt, roll-Stmt, map-St
 use Rattle.pv_ast.specs.declared.StmtKind.{StmtKind, StmtKind-F, roll-StmtKind, map-StmtKind, fold-roll-StmtKind}
 use Rattle.pv_rules.specs.declared.fault.Rule.TheVariants as rule
 use Rattle.pv_rules.specs.declared.fault.ShapeFault.{ShapeFault}
-use Rattle.pv_rules.specs.declared.scope.Declaration.TheVariants.{LoopVariable}
+use Rattle.pv_rules.specs.declared.scope.Declaration.TheVariants.{Local, LoopVariable}
 use Rattle.pv_rules.specs.declared.standing.Context.{Context}
 use Rattle.pv_rules.specs.declared.standing.Need.TheVariants.{Exactly}
 use Rattle.pv_rules.specs.declared.standing.Spot.{Spot}
 use Rattle.pv_rules.specs.declared.standing.Surround.TheVariants as surround
 use Rattle.pv_rules.specs.Faults.{Faults}
 use Rattle.pv_rules.specs.Lookup.{same_name}
-use Rattle.pv_rules.specs.Scoping.{Visible, entered, is_visible}
+use Rattle.pv_rules.specs.Scoping.{Visible, entered, is_visible, is_block_around}
 use Rattle.pv_rules.specs.Parts.{Around, Part}
 use Rattle.pv_rules.specs.Items.{Shape, clause}
 use Rattle.pv_rules.specs.Shapes as shapes
@@ -36,9 +36,10 @@ use Rattle.pv_picks.specs.Names.{no_name}
 use Rattle.pv_picks.specs.Pieces.{piece_of, core_of_formula, core_of_items}
 use Rattle.pv_picks.specs.Statements.{StmtPiece, StmtKindPiece, Site, at, block_from, sent_in, message_of, joined, joined_items, formulas_at, core_of_formulas, core_of_contract, core_of_shared, inside_for, inside_par, in_for, in_par, piece_in_stmt_kind, piece_in_stmt, piece_of_stmt, piece_of_stmt_kind}
 use Rattle.pv_picks.specs.Positions.{ConfinedFormula, ConfinedItems, ConfinedContract, ConfinedShared, ConfinedBarrier, ConfinedStatement, ConfinedBlock}
-use Rattle.pv_picks.proofs.Clean.{Clean, if_fails}
+use Rattle.pv_picks.proofs.Clean.{Clean, unless_holds, if_fails}
 use Rattle.pv_picks.proofs.Agreeing.{Agree, agree_local, agree_head}
 use Rattle.pv_picks.proofs.Heads.{at_head}
+use Rattle.pv_picks.proofs.Blocks.{Blocked, blocked_with}
 use Rattle.pv_picks.proofs.Layers.{shape_in_piece, part_in_piece}
 use Rattle.pv_picks.proofs.StmtLayers.{layer_of, kind_at_roll, stmt_at_roll}
 use Rattle.pv_picks.proofs.Terms.{together_confined}
@@ -149,7 +150,8 @@ AtSite v spot site = is_loop spot.surround ≡ true → Agree v site.head
 
 -- what a statement without a fault becomes, the scope behind it, and the messages that it sends
 pub record Done (v after : Visible) (around : shapes.Around) (faults_at : Spot → Faults) (statement_at : Site → Statement) (sent_at : Visible → List Message) : Type 0 where
-  pub statement : (position : Option Name) (spot : Spot) (site : Site) → Clean (faults_at spot) → Looped spot around → AtSite v spot site → Placed position around site → AllConfined site.messages → ConfinedStatement position (statement_at site)
+  pub statement : (position : Option Name) (spot : Spot) (site : Site) → Clean (faults_at spot) → Looped spot around → AtSite v spot site → Blocked v position → Placed position around site → AllConfined site.messages → ConfinedStatement position (statement_at site)
+  pub blocks : (position : Option Name) → Blocked v position → Blocked after position
   pub agree : (spot : Spot) (there : Visible) → Clean (faults_at spot) → Agree v there → Agree after there
   pub sent : (spot : Spot) (there : Visible) → Clean (faults_at spot) → spot.looped ≡ true → is_some around.loop ≡ true → Agree v there → AllConfined (sent_at there)
 
@@ -179,20 +181,20 @@ shapes_of ss around = faults_of_each (map faults_of_stmt (trees ss)) around
 
 -- a statement that sends nothing and declares nothing
 silent : {v : Visible} {around : shapes.Around} {faults_at : Spot → Faults} {statement_at : Site → Statement}
-    → ((position : Option Name) (spot : Spot) (site : Site) → Clean (faults_at spot) → Looped spot around → AtSite v spot site → Placed position around site → AllConfined site.messages → ConfinedStatement position (statement_at site)) → Done v v around faults_at statement_at (λ there. [])
-silent h = record { statement = h; agree = λ spot there clean agree. agree; sent = λ spot there clean looped loop agree. tt }
+    → ((position : Option Name) (spot : Spot) (site : Site) → Clean (faults_at spot) → Looped spot around → AtSite v spot site → Blocked v position → Placed position around site → AllConfined site.messages → ConfinedStatement position (statement_at site)) → Done v v around faults_at statement_at (λ there. [])
+silent h = record { statement = h; blocks = λ position blocked. blocked; agree = λ spot there clean agree. agree; sent = λ spot there clean looped loop agree. tt }
 
 still_placed : (position : Option Name) (around inner : shapes.Around) (site further : Site) → inner.block ≡ around.block → further.position ≡ site.position → Placed position around site → Placed position inner further
 still_placed None around inner site further same there h = tt
 still_placed (Some name) around inner site further same there h = (same ∙ h.0, there ∙ h.1)
 
 block_law : (ss : List Stmts) (n : ℕ) (a : Around) (v : Visible) (around : shapes.Around) → shapes_of ss around ≡ [] → (position : Option Name) (spot : Spot) (site : Site) → Clean (faults_of_statements (parts_in (pieces ss)) a v spot)
-    → Looped spot around → AtSite v spot site → Placed position around site → AllConfined site.messages → ConfinedBlock position (block_from n (pieces ss) a v site)
-block_law [] n a v around none position spot site clean looped here placed told = tt
-block_law (s ∷ ss) n a v around none position spot site clean looped here placed told =
+    → Looped spot around → AtSite v spot site → Blocked v position → Placed position around site → AllConfined site.messages → ConfinedBlock position (block_from n (pieces ss) a v site)
+block_law [] n a v around none position spot site clean looped here blocked placed told = tt
+block_law (s ∷ ss) n a v around none position spot site clean looped here blocked placed told =
     let h = s.1 a v around (no_first (faults_of_stmt s.0 around) (shapes_of ss around) none) in (
-      h.statement position spot (at n site) clean.0 looped here (still_placed position around around site (at n site) refl refl placed) told,
-      block_law ss (n + 1) a ((piece_of_stmt s.0).part.behind v) around (no_second (faults_of_stmt s.0 around) (shapes_of ss around) none) position spot site clean.1 looped (λ loop. h.agree spot site.head clean.0 (here loop)) placed told,
+      h.statement position spot (at n site) clean.0 looped here blocked (still_placed position around around site (at n site) refl refl placed) told,
+      block_law ss (n + 1) a ((piece_of_stmt s.0).part.behind v) around (no_second (faults_of_stmt s.0 around) (shapes_of ss around) none) position spot site clean.1 looped (λ loop. h.agree spot site.head clean.0 (here loop)) (h.blocks position blocked) placed told,
     )
 
 -- Messages
@@ -249,10 +251,11 @@ if_law e first second = λ span a v around none.
     let one : shapes_of first around ≡ [] = no_second (quantifiers_in e) (shapes_of first around) before in
     let two : shapes_of second around ≡ [] = no_second (quantifiers_in e ++ shapes_of first around) (shapes_of second around) none in
     record {
-      statement = λ position spot site clean looped here placed told. (
-        block_law first 0 a v around one position (in_branch spot) (at 0 site) clean.1.0 looped here (still_placed position around around site (at 0 site) refl refl placed) told,
-        block_law second 0 a v around two position (in_branch spot) (at 1 site) clean.1.1 looped here (still_placed position around around site (at 1 site) refl refl placed) told,
+      statement = λ position spot site clean looped here blocked placed told. (
+        block_law first 0 a v around one position (in_branch spot) (at 0 site) clean.1.0 looped here blocked (still_placed position around around site (at 0 site) refl refl placed) told,
+        block_law second 0 a v around two position (in_branch spot) (at 1 site) clean.1.1 looped here blocked (still_placed position around around site (at 1 site) refl refl placed) told,
       );
+      blocks = λ position blocked. blocked;
       agree = λ spot there clean agree. agree;
       sent = λ spot there clean looped loop agree.
           messages_append (sent_in (pieces first) a there) (sent_in (pieces second) a there) (sent_law first a v there around (in_branch spot) one clean.1.0 looped loop agree)
@@ -264,10 +267,11 @@ while_law es e body = λ span a v around none.
     let before : List ShapeFault = faults_of_formulas es ++ quantifiers_in e in
     let within : shapes_of body around ≡ [] = no_second before (shapes_of body around) none in
     record {
-      statement = λ position spot site clean looped here placed told. (
+      statement = λ position spot site clean looped here blocked placed told. (
         formulas_confined es a v (in_invariant spot) clean.0 (no_first (faults_of_formulas es) (quantifiers_in e) (no_first before (shapes_of body around) none)),
-        block_law body 0 a v around within position (in_while spot) (at 0 site) clean.1.1 looped here (still_placed position around around site (at 0 site) refl refl placed) told,
+        block_law body 0 a v around within position (in_while spot) (at 0 site) clean.1.1 looped here blocked (still_placed position around around site (at 0 site) refl refl placed) told,
       );
+      blocks = λ position blocked. blocked;
       agree = λ spot there clean agree. agree;
       sent = λ spot there clean looped loop agree. sent_law body a v there around (in_while spot) within clean.1.1 looped loop agree;
     }
@@ -284,11 +288,11 @@ for_law range c body = λ span a v around none.
     let before : quantifiers_in_range range ++ contract ≡ [] = no_first (quantifiers_in_range range ++ contract) further none in
     let within : further ≡ [] = no_second (quantifiers_in_range range ++ contract) further none in
     let inside : Visible = inside_for v range in
-    silent (λ position spot site clean looped here placed told.
+    silent (λ position spot site clean looped here blocked placed told.
     let agree : Agree inside inside = agree_head v LoopVariable range.name.name Int refl (if_fails (is_visible (entered v) range.name.name) rule.Shadows range.name.span clean.1.1.0) in
     let members : Spot = among_members surround.Loop spot in (
       shared_confined range.name.name c a inside in_condition in_condition clean.1.1.1.0.0 (no_second (quantifiers_in_range range) contract before),
-      block_law body 0 a inside inner within position members (in_for a inside (pieces body) (at 0 site)) clean.1.1.1.0.1 (λ loop. refl) (λ loop. agree)
+      block_law body 0 a inside inner within position members (in_for a inside (pieces body) (at 0 site)) clean.1.1.1.0.1 (λ loop. refl) (λ loop. agree) (blocked_with position (entered v) LoopVariable range.name.name Int refl blocked)
       (still_placed position around inner site (in_for a inside (pieces body) (at 0 site)) refl refl placed) (sent_law body a inside inside inner members within clean.1.1.1.0.1 (looped_for spot.looped) refl agree),
     ))
 
@@ -301,10 +305,11 @@ par_law o range c body = λ span a v around none.
     let within : further ≡ [] = no_second (quantifiers_in_range range ++ contract) further none in
     let inside : Visible = inside_par v o range in
     record {
-      statement = λ position spot site clean looped here placed told. (
+      statement = λ position spot site clean looped here blocked placed told. (
         shared_confined range.name.name c a inside in_condition in_condition clean.1.1.1.1.0 (no_second (quantifiers_in_range range) contract before),
-        block_law body 0 a inside inner within (Some range.name.name) (among_members surround.Block spot) (in_par range (at 0 site)) clean.1.1.1.1.1 (λ loop. no_loop loop) (λ loop. no_loop loop) (refl, refl) told,
+        block_law body 0 a inside inner within (Some range.name.name) (among_members surround.Block spot) (in_par range (at 0 site)) clean.1.1.1.1.1 (λ loop. no_loop loop) (λ loop. no_loop loop) (λ n is. refl) (refl, refl) told,
       );
+      blocks = λ position blocked. blocked;
       agree = λ spot there clean agree. agree;
       sent = λ spot there clean looped loop agree. absurd (both_ways spot.looped (if_fails spot.looped rule.BodyForm span clean.0) looped);
     }
@@ -312,10 +317,10 @@ par_law o range c body = λ span a v around none.
     no_loop : {A : Type 0} → false ≡ true → A
     no_loop h = absurd cc
 
-barrier_law : (position : Option Name) (c : Contract) (a : Around) (v : Visible) (around : shapes.Around) (site : Site) → Clean (rules.faults_of_clauses a v between_members between_members c.clauses) → shapes.faults_of_barrier around.block c ≡ [] → Placed position around site
+barrier_law : (position : Option Name) (c : Contract) (a : Around) (v : Visible) (around : shapes.Around) (site : Site) → Clean (rules.faults_of_clauses a v between_members between_members c.clauses) → shapes.faults_of_barrier around.block c ≡ [] → is_some position ≡ true → Placed position around site
     → ConfinedBarrier position (core_of_shared site.position a v c)
-barrier_law None c a v around site clean none placed = tt
-barrier_law (Some name) c a v around site clean none placed =
+barrier_law None c a v around site clean none is placed = absurd cc
+barrier_law (Some name) c a v around site clean none is placed =
     subst (λ (n : Name). ConfinedShared name (core_of_shared n a v c)) (sym placed.1)
     (shared_confined name c a v between_members between_members clean (subst (λ (o : Option ℕ). shapes.faults_of_barrier o c ≡ []) placed.0 none))
 
@@ -323,32 +328,34 @@ barrier_law (Some name) c a v around site clean none placed =
 
 layer_law : (y : StmtKind-F Kinds Stmts) → LayerLaw y
 layer_law (StmtKind-F.Local type w value) = λ span a v around none. record {
-  statement = λ position spot site clean looped here placed told. tt;
+  statement = λ position spot site clean looped here blocked placed told. tt;
+  blocks = λ position blocked. blocked_with position v Local w.name type.kind refl blocked;
   agree = λ spot there clean agree. agree_local v there w.name type.kind (if_fails (is_visible v w.name) rule.Shadows w.span clean.1.0) agree;
   sent = λ spot there clean looped loop agree. tt;
 }
-layer_law (StmtKind-F.Assign to value) = λ span a v around none. silent (λ position spot site clean looped here placed told. tt)
-layer_law (StmtKind-F.Call target w args) = λ span a v around none. silent (λ position spot site clean looped here placed told. tt)
+layer_law (StmtKind-F.Assign to value) = λ span a v around none. silent (λ position spot site clean looped here blocked placed told. tt)
+layer_law (StmtKind-F.Call target w args) = λ span a v around none. silent (λ position spot site clean looped here blocked placed told. tt)
 layer_law (StmtKind-F.If e first second) = if_law e first second
 layer_law (StmtKind-F.While es e body) = while_law es e body
 layer_law (StmtKind-F.For range c body) = for_law range c body
 layer_law (StmtKind-F.Par o range c body) = par_law o range c body
-layer_law (StmtKind-F.Barrier w c) = λ span a v around none. silent (λ position spot site clean looped here placed told. barrier_law position c a v around site clean.1 none placed)
-layer_law (StmtKind-F.Fork e) = λ span a v around none. silent (λ position spot site clean looped here placed told. tt)
-layer_law (StmtKind-F.Join e) = λ span a v around none. silent (λ position spot site clean looped here placed told. tt)
-layer_law (StmtKind-F.Lock e) = λ span a v around none. silent (λ position spot site clean looped here placed told. tt)
-layer_law (StmtKind-F.Unlock e) = λ span a v around none. silent (λ position spot site clean looped here placed told. tt)
-layer_law (StmtKind-F.Commit e) = λ span a v around none. silent (λ position spot site clean looped here placed told. tt)
-layer_law (StmtKind-F.Fold target w args) = λ span a v around none. silent (λ position spot site clean looped here placed told. tt)
-layer_law (StmtKind-F.Unfold target w args) = λ span a v around none. silent (λ position spot site clean looped here placed told. tt)
-layer_law (StmtKind-F.Assert e) = λ span a v around none. silent (λ position spot site clean looped here placed told. formula_confined e a v (in_invariant spot) clean none)
+layer_law (StmtKind-F.Barrier w c) = λ span a v around none. silent (λ position spot site clean looped here blocked placed told. barrier_law position c a v around site clean.1 none (blocked w.name (unless_holds (is_block_around v w.name) rule.UnknownName w.span clean.0.0)) placed)
+layer_law (StmtKind-F.Fork e) = λ span a v around none. silent (λ position spot site clean looped here blocked placed told. tt)
+layer_law (StmtKind-F.Join e) = λ span a v around none. silent (λ position spot site clean looped here blocked placed told. tt)
+layer_law (StmtKind-F.Lock e) = λ span a v around none. silent (λ position spot site clean looped here blocked placed told. tt)
+layer_law (StmtKind-F.Unlock e) = λ span a v around none. silent (λ position spot site clean looped here blocked placed told. tt)
+layer_law (StmtKind-F.Commit e) = λ span a v around none. silent (λ position spot site clean looped here blocked placed told. tt)
+layer_law (StmtKind-F.Fold target w args) = λ span a v around none. silent (λ position spot site clean looped here blocked placed told. tt)
+layer_law (StmtKind-F.Unfold target w args) = λ span a v around none. silent (λ position spot site clean looped here blocked placed told. tt)
+layer_law (StmtKind-F.Assert e) = λ span a v around none. silent (λ position spot site clean looped here blocked placed told. formula_confined e a v (in_invariant spot) clean none)
 layer_law (StmtKind-F.Send w n e) = λ span a v around none. record {
-  statement = λ position spot site clean looped here placed told. let loop = loop_place spot span clean.0 in message_confined e a v site.head around.loop (here loop) clean.1.1 (looped loop) none;
+  statement = λ position spot site clean looped here blocked placed told. let loop = loop_place spot span clean.0 in message_confined e a v site.head around.loop (here loop) clean.1.1 (looped loop) none;
+  blocks = λ position blocked. blocked;
   agree = λ spot there clean agree. agree;
   sent = λ spot there clean looped loop agree. (message_confined e a v there around.loop agree clean.1.1 loop none, tt);
 }
-layer_law (StmtKind-F.Recv w) = λ span a v around none. silent (λ position spot site clean looped here placed told. received_confined site.messages w.name told)
-layer_law (StmtKind-F.Return value) = λ span a v around none. silent (λ position spot site clean looped here placed told. tt)
+layer_law (StmtKind-F.Recv w) = λ span a v around none. silent (λ position spot site clean looped here blocked placed told. received_confined site.messages w.name told)
+layer_law (StmtKind-F.Return value) = λ span a v around none. silent (λ position spot site clean looped here blocked placed told. tt)
 
 kind_step : (x : StmtKind-F StmtKind Stmt) (y : StmtKind-F Kinds Stmts) → without y ≡ x → KindLaw (piece_of_stmt_kind (roll-StmtKind x)) (faults_of_stmt_kind (roll-StmtKind x))
 kind_step x y is =

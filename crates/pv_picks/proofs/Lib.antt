@@ -17,7 +17,9 @@ pub mod Whole
 pub mod Matching
 pub mod Looks
 pub mod Terms
+pub mod References
 pub mod Confining
+pub mod Blocks
 pub mod ConfiningStmts
 pub mod ConfiningWhole
 pub mod Outside

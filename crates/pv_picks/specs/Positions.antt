@@ -81,12 +81,12 @@ ConfinedContract c = ConfinedFormula c.before × ConfinedFormula c.after
 abbrev pub ConfinedShared : Name → Shared → Type 0
 ConfinedShared name s = ConfinedContract s.one × ConfinedItems name s.each_before × ConfinedItems name s.each_after
 
--- a barrier's contract is one of the members of the innermost par block around; there is none outside of these
+-- a barrier stands in a par block, and its contract is one of the members of the innermost
 abbrev pub ConfinedBarrier : Option Name → Shared → Type 0
-ConfinedBarrier None s = Unit {0}
+ConfinedBarrier None s = ⊥
 ConfinedBarrier (Some name) s = ConfinedShared name s
 
--- `around` is the position of the innermost par block around
+-- `around` is the position of the innermost par block around, where there is one
 abbrev mutual
   pub ConfinedStatement : Option Name → Statement → Type 0
   ConfinedStatement around (core.Assign target right span) = Unit {0}
