@@ -1,15 +1,14 @@
 -- An expression without a fault becomes a formula, and items, in which positions stand only where they are read.
-use Rattle.std.proofs.Common.{◌≡◌, ℕ, Bool, true, false, not, ◌&&◌, ◌||◌, Option, Some, None, is_some, List, [], ◌∷◌, ◌++◌, map, refl, sym, ◌∙◌, ap, subst, inl, inr}
+use Rattle.std.proofs.Common.{◌≡◌, ℕ, Bool, true, false, ◌&&◌, Option, Some, None, is_some, List, [], ◌∷◌, ◌++◌, map, refl, sym, subst, inl, inr}
 use Rattle.std.proofs.lemmas.Bool.{and_parts, both_ways, eqb-true, eq-eqb}
 use Rattle.std.specs.Prelude.{nat_eq, ◌⊎◌, if◌then◌else◌}
-use Rattle.std.specs.List.{AllByRecursion}
 use Rattle.pv_base.specs.declared.Name.{Name}
 use Rattle.pv_base.specs.declared.Span.{Span}
 use Rattle.pv_ast.specs.declared.Word.{Word}
 use Rattle.pv_ast.specs.declared.Operator.{Operator}
 use Rattle.pv_ast.specs.declared.Operator.TheVariants as op
 use Rattle.pv_ast.specs.declared.PvType.{PvType}
-use Rattle.pv_ast.specs.declared.PvType.TheVariants.{Int, Truth, Object, IntArray, TruthArray, Null}
+use Rattle.pv_ast.specs.declared.PvType.TheVariants.{Int, Truth}
 use Rattle.pv_ast.specs.declared.Token.{Token}
 use Rattle.pv_ast.specs.declared.Token.TheVariants as token
 use Rattle.pv_ast.specs.declared.Expr.{Expr, Expr-F, ind-Expr, roll-Expr, map-Expr}
@@ -19,9 +18,9 @@ use Rattle.pv_rules.specs.declared.fault.ShapeFault.{ShapeFault}
 use Rattle.pv_rules.specs.declared.scope.Declared.{Declared}
 use Rattle.pv_rules.specs.declared.standing.Context.{Context}
 use Rattle.pv_rules.specs.declared.standing.Need.{Need}
-use Rattle.pv_rules.specs.declared.standing.Need.TheVariants.{Anything, Exactly, AnObject, AnArray, AnObjectOrArray}
+use Rattle.pv_rules.specs.declared.standing.Need.TheVariants.{Anything, Exactly, AnObject, AnArray}
 use Rattle.pv_rules.specs.declared.standing.Typing.{Typing}
-use Rattle.pv_rules.specs.declared.standing.Typing.TheVariants.{Unsettled, Untyped, Typed}
+use Rattle.pv_rules.specs.declared.standing.Typing.TheVariants.{Typed}
 use Rattle.pv_rules.specs.Lookup.{same_name}
 use Rattle.pv_rules.specs.Scoping.{Visible, variable_named}
 use Rattle.pv_rules.specs.Typing as typing
@@ -33,7 +32,7 @@ use Rattle.pv_meaning.specs.Core as core
 use Rattle.pv_meaning.specs.Repetitions.{looks_in, looks_of, term_beside}
 use Rattle.pv_picks.specs.Operations.{no_expression, negation, operation, compared, is_position}
 use Rattle.pv_picks.specs.Names.{named, member_of, class_at, elements_of}
-use Rattle.pv_picks.specs.Pieces.{Piece, KindPiece, EachPiece, Layer, piece_in_kind, piece_in_each, piece_in_expr, piece_of, piece_of_kind, piece_of_each, shapes_in, conjunct, alone, joined, is_fact, is_pure, item_in_kind, formula_in_kind, items_in_kind, expression_in_kind, type_of_piece, class_of_piece, units_of}
+use Rattle.pv_picks.specs.Pieces.{Piece, KindPiece, EachPiece, Layer, piece_in_kind, piece_in_each, piece_in_expr, piece_of, piece_of_kind, piece_of_each, shapes_in, conjunct, alone, joined, is_fact, is_pure, item_in_kind, formula_in_kind, items_in_kind, type_of_piece, units_of}
 use Rattle.pv_picks.specs.Positions.{mentions, IsTerm, ConfinedFormula, ConfinedItems, ConfinedItem}
 use Rattle.pv_picks.proofs.Clean.{Clean}
 use Rattle.pv_picks.proofs.Layers.{layer_of, each_layer_of, kind_at_roll, each_at_roll, expr_at_roll, part_in_piece}

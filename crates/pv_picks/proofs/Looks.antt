@@ -1,5 +1,5 @@
 -- What a run looks at before it repeats a condition, where the condition names the position only in shifted indexes or beside a term.
-use Rattle.std.proofs.Common.{◌≡◌, ℕ, ℤ, pos, Bool, true, false, ◌||◌, Option, Some, None, is_some, List, [], ◌∷◌, ◌++◌, refl, sym, ap, subst, inl, inr}
+use Rattle.std.proofs.Common.{◌≡◌, ℕ, ℤ, pos, Bool, true, false, Option, Some, None, is_some, List, [], ◌∷◌, ◌++◌, refl, sym, subst, inl, inr}
 use Rattle.std.proofs.lemmas.Bool.{or_parts, or_from, both_ways}
 use Rattle.std.specs.Prelude.{◌⊎◌, if◌then◌else◌}
 use Rattle.std.specs.List.{AllByRecursion}
@@ -10,7 +10,7 @@ use Rattle.pv_ast.specs.declared.PvType.{PvType}
 use Rattle.pv_rules.specs.Lookup.{same_name}
 use Rattle.pv_meaning.specs.Core.{Expression}
 use Rattle.pv_meaning.specs.Core as core
-use Rattle.pv_meaning.specs.Repetitions.{Look, AtElements, AtElement, AtLength, AtTerm, in_state, looks_in, look_at_element, shift_in, shift_if, term_beside}
+use Rattle.pv_meaning.specs.Repetitions.{Look, AtTerm, in_state, looks_in, look_at_element, shift_in, shift_if, term_beside}
 use Rattle.pv_picks.specs.Operations.{is_position, operation, number}
 use Rattle.pv_picks.specs.Positions.{mentions, IsTerm, IsTermLook}
 

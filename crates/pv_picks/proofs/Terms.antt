@@ -1,6 +1,6 @@
 -- What the shape of an expression says of what it becomes: which parts of it don't name a position.
 use Rattle.std.proofs.Common.{◌≡◌, ℕ, ℤ, pos, Bool, true, false, not, ◌&&◌, ◌||◌, Option, Some, None, is_some, List, [], ◌∷◌, ◌++◌, refl, sym, ◌∙◌, ap, subst, inl, inr}
-use Rattle.std.proofs.lemmas.Bool.{and_parts, or_parts, or_from, or_left, both_ways}
+use Rattle.std.proofs.lemmas.Bool.{and_parts, or_from, or_left, both_ways}
 use Rattle.std.specs.Prelude.{◌⊎◌, if◌then◌else◌}
 use Rattle.std.specs.List.{AllByRecursion}
 use Rattle.pv_base.specs.declared.Name.{Name}
@@ -175,6 +175,7 @@ either_beside name f g x y h k is = by (or_cases (has_variable_and_term f g) (ar
     within : (is_variable_and_term f g ≡ true) ⊎ (is_variable_and_term g f ≡ true) → Beside name x y ⊎ Beside name y x
     within (inl i) = inl (beside name f g x y h k i)
     within (inr i) = inr (beside name g f y x k h i)
+
     by : (has_variable_and_term f g ≡ true) ⊎ (are_terms f g ≡ true) → Beside name x y ⊎ Beside name y x
     by (inl i) = within (or_cases (is_variable_and_term f g) (is_variable_and_term g f) i)
     by (inr i) =

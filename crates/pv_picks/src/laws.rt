@@ -13,8 +13,9 @@ pub fn resolves_well_formed()
     ensures { (p : Program) → KeepsRules p → IsResolved (core_of p) }
 {}
 
-/// In what a well formed program becomes, what an item reads once for all positions doesn't name the position: arrays of
-/// permissions, objects of `committed`, the terms and conditions of guards, and terms that fix the position.
+/// In what a well formed program becomes, nothing that is read once for all positions names the position: the arrays of permissions,
+/// the objects of `committed`, the terms and conditions of guards, the terms that fix the position, and what is looked at before a
+/// condition is repeated. And each barrier stands in a par block.
 pub fn confines_positions()
     ensures { (p : Program) → IsWellFormed p → IsConfined (core_of p) }
 {}
