@@ -16,3 +16,12 @@ pub mod Stmts
 pub mod Whole
 pub mod Matching
 pub mod Verdicts
+pub mod Looks
+pub mod Terms
+pub mod References
+pub mod Confining
+pub mod Blocks
+pub mod ConfiningStmts
+pub mod ConfiningWhole
+pub mod Outside
+pub mod Settling

@@ -2,8 +2,10 @@
 ghost use Rattle.std.specs.Prelude.{List};
 ghost use Rattle.pv_ast.specs.declared.Program.{Program};
 ghost use Rattle.pv_rules.specs.Programs.{KeepsRules};
+ghost use Rattle.pv_rules.specs.WellFormed.{IsWellFormed};
 ghost use Rattle.pv_picks.specs.Programs.{core_of};
 ghost use Rattle.pv_picks.specs.Resolved.{IsResolved};
+ghost use Rattle.pv_picks.specs.Positions.{IsConfined};
 ghost use Rattle.pv_picks.specs.Messages.{IsMatched};
 ghost use Rattle.pv_picks.specs.declared.verdict.Verdict.{Verdict};
 ghost use Rattle.pv_picks.specs.Theorems.{AreVerdicts, AreGood, IsVerified};
@@ -14,7 +16,14 @@ pub fn resolves_well_formed()
     ensures { (p : Program) → KeepsRules p → IsResolved (core_of p) }
 {}
 
-/// In what such a program becomes, each message that the body of a counted loop receives is one that it sends.
+/// In what a well formed program becomes, nothing that is read once for all positions names the position: the arrays of permissions,
+/// the objects of `committed`, the terms and conditions of guards, the terms that fix the position, and what is looked at before a
+/// condition is repeated. And each barrier stands in a par block.
+pub fn confines_positions()
+    ensures { (p : Program) → IsWellFormed p → IsConfined (core_of p) }
+{}
+
+/// In what a program becomes that keeps the static rules, each message that the body of a counted loop receives is one that it sends.
 pub fn receives_what_is_sent()
     ensures { (p : Program) → KeepsRules p → IsMatched (core_of p) }
 {}
