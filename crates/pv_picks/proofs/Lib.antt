@@ -15,3 +15,4 @@ pub mod StmtLayers
 pub mod Stmts
 pub mod Whole
 pub mod Matching
+pub mod Places

@@ -7,3 +7,4 @@ pub mod Units
 pub mod Theorems
 pub mod Resolved
 pub mod Messages
+pub mod Placing
