@@ -18,7 +18,8 @@ pub fn receives_what_is_sent()
 {}
 
 /// In what such a program becomes, each barrier stands in the body of a par block, and each message in that of a counted loop and in
-/// no `while` there; and no message is sent to its own sender. Elsewhere a thread waits for ever, and waiting is never wrong.
+/// no `while` there; and no message is sent to its own sender. A thread that is no member waits there for ever, as one does that
+/// receives what it has yet to send; and waiting is never wrong.
 pub fn barriers_and_messages_stand_inside()
     ensures { (p : Program) → KeepsRules p → IsPlaced (core_of p) }
 {}
