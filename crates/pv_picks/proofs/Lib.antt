@@ -25,3 +25,4 @@ pub mod ConfiningStmts
 pub mod ConfiningWhole
 pub mod Outside
 pub mod Settling
+pub mod Places

@@ -8,3 +8,4 @@ pub mod Theorems
 pub mod Resolved
 pub mod Messages
 pub mod Positions
+pub mod Placing

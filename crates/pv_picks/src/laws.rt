@@ -7,6 +7,7 @@ ghost use Rattle.pv_picks.specs.Programs.{core_of};
 ghost use Rattle.pv_picks.specs.Resolved.{IsResolved};
 ghost use Rattle.pv_picks.specs.Positions.{IsConfined};
 ghost use Rattle.pv_picks.specs.Messages.{IsMatched};
+ghost use Rattle.pv_picks.specs.Placing.{IsPlaced};
 ghost use Rattle.pv_picks.specs.declared.verdict.Verdict.{Verdict};
 ghost use Rattle.pv_picks.specs.Theorems.{AreVerdicts, AreGood, IsVerified};
 
@@ -26,6 +27,13 @@ pub fn confines_positions()
 /// In what a program becomes that keeps the static rules, each message that the body of a counted loop receives is one that it sends.
 pub fn receives_what_is_sent()
     ensures { (p : Program) → KeepsRules p → IsMatched (core_of p) }
+{}
+
+/// In what such a program becomes, each barrier stands in the body of a par block, and each message in that of a counted loop and in
+/// no `while` there; and no message is sent to its own sender. A thread that is no member waits there for ever, as one does that
+/// receives what it has yet to send; and waiting is never wrong.
+pub fn barriers_and_messages_stand_inside()
+    ensures { (p : Program) → KeepsRules p → IsPlaced (core_of p) }
 {}
 
 /// Where each verdict on a program has its ground, and is Pass or Empty, no evidence makes the judge fail on any of its units.
