@@ -26,3 +26,4 @@ pub mod ConfiningWhole
 pub mod Outside
 pub mod Settling
 pub mod Places
+pub mod Returning

@@ -8,6 +8,7 @@ ghost use Rattle.pv_picks.specs.Resolved.{IsResolved};
 ghost use Rattle.pv_picks.specs.Positions.{IsConfined};
 ghost use Rattle.pv_picks.specs.Messages.{IsMatched};
 ghost use Rattle.pv_picks.specs.Placing.{IsPlaced};
+ghost use Rattle.pv_picks.specs.Returns.{ReturnsComeLast};
 ghost use Rattle.pv_picks.specs.declared.verdict.Verdict.{Verdict};
 ghost use Rattle.pv_picks.specs.Theorems.{AreVerdicts, AreGood, IsVerified};
 
@@ -34,6 +35,11 @@ pub fn receives_what_is_sent()
 /// receives what it has yet to send; and waiting is never wrong.
 pub fn barriers_and_messages_stand_inside()
     ensures { (p : Program) → KeepsRules p → IsPlaced (core_of p) }
+{}
+
+/// In what such a program becomes, nothing returns but the last statement of a method's body, and nothing in a `run`.
+pub fn returns_come_last()
+    ensures { (p : Program) → KeepsRules p → ReturnsComeLast (core_of p) }
 {}
 
 /// Where each verdict on a program has its ground, and is Pass or Empty, no evidence makes the judge fail on any of its units.
