@@ -35,19 +35,12 @@ breadth-drop [] i d h = absurd (omega arith)
 breadth-drop (e ∷ es) zero d h = refl
 breadth-drop (e ∷ es) (suc i) d h = breadth-drop es i d (omega arith)
 
-pub AreMet-drop : (ns : List Entry) (es : List Edge) (i : ℕ) (d : Edge) → i < length es → IsMet ns (slice_index_or es i d) → AreMet ns (drop (suc i) es) → AreMet ns (drop i es)
-AreMet-drop ns [] i d h a m = absurd (omega arith)
-AreMet-drop ns (e ∷ es) zero d h a m = (a, m)
-AreMet-drop ns (e ∷ es) (suc i) d h a m = AreMet-drop ns es i d (omega arith) a m
-
 pub breadth-past : (es : List Edge) (i : ℕ) → length es ≤ i → breadth (drop i es) ≡ 0
 breadth-past [] zero h = refl
 breadth-past [] (suc i) h = refl
 breadth-past (e ∷ es) zero h = absurd (omega arith)
 breadth-past (e ∷ es) (suc i) h = breadth-past es i (omega arith)
 
-pub AreMet-past : (ns : List Entry) (es : List Edge) (i : ℕ) → length es ≤ i → AreMet ns (drop i es)
-AreMet-past ns [] zero h = tt
-AreMet-past ns [] (suc i) h = tt
-AreMet-past ns (e ∷ es) zero h = absurd (omega arith)
-AreMet-past ns (e ∷ es) (suc i) h = AreMet-past ns es i (omega arith)
+pub AreMet-each : (ns : List Entry) (es : List Edge) (d : Edge) → ((k : ℕ) → k < length es → IsMet ns (slice_index_or es k d)) → AreMet ns es
+AreMet-each ns [] d h = tt
+AreMet-each ns (e ∷ es) d h = (h 0 (omega arith), AreMet-each ns es d (λ k lt. h (suc k) (omega (arith, lt))))

@@ -3,8 +3,10 @@
 //! `satisfy` looks at equations and at differences apart, as no symbol but 0 stands in both. It gives each symbol of an equation a
 //! slot and grows trees along the equations; each tree is a class, and a class has a number of its own. That takes time in the
 //! number of literals, times its logarithm for the slots. For the differences it lowers the numbers of slots round by round, from
-//! zero on: a round takes time in the number of literals, and there are as many rounds as the longest chain of lowered symbols has
-//! members. Besides the answer it allocates a few lists in the number of literals.
+//! zero on. A round goes over the differences once, and takes time in their number; the first one goes from the first to the last,
+//! the next one from the last to the first, and so on in turn. A chain of lowered symbols that stands in either order takes at most
+//! two rounds, and no chain takes more than it has members; then one round finds all differences met. Besides the answer it
+//! allocates a few lists in the number of literals.
 #![tactic(auto)]
 
 ghost use Rattle.std.specs.Prelude.{◌^◌, ◌*◌, ◌+◌, ◌<◌, ◌≤◌, length, Contains, IfOk};

@@ -59,9 +59,9 @@ fn lower(table: &mut [Entry], edges: &[Edge], place: usize) -> Option<u32>
     Some(edge.to)
 }
 
-/// Goes over all edges once, and says which slot was lowered last. It stops at a slot that comes to lie further below zero
-/// than all bounds together.
-fn lower_all(table: &mut [Entry], edges: &[Edge], limit: i128) -> Option<u32>
+/// Goes over all edges once, from the first one on or, backward, from the last one on, and says which slot was lowered last.
+/// It stops at a slot that comes to lie further below zero than all bounds together.
+fn lower_all(table: &mut [Entry], edges: &[Edge], limit: i128, backward: bool) -> Option<u32>
     requires few { length edges.now < 2 ^ 20 }
     requires slots { AllBelow (length table.old) edges.now }
     requires bounds { widest edges.now ≤ 2 ^ 100 }
@@ -73,7 +73,12 @@ fn lower_all(table: &mut [Entry], edges: &[Edge], limit: i128) -> Option<u32>
     ensures lowered { IfSome result (λ x. Lowers edges.now table.old table.new x) }
 {
     let mut last = None;
-    for place in 0..edges.len() {
+    for step in 0..edges.len() {
+        let place = if backward {
+            edges.len() - 1 - step
+        } else {
+            step
+        };
         if let Some(slot) = lower(table, edges, place) {
             last = Some(slot);
             if table[slot as usize].number < -limit {
@@ -176,10 +181,12 @@ pub fn settle(alloc: Global, edges: &[Edge], count: usize) -> Result<Settled, No
 {
     let limit = breadth_of(edges);
     let mut table = start_table(alloc, count)?;
-    while let Some(last) = lower_all(&mut table, edges, limit) {
+    let mut backward = false;
+    while let Some(last) = lower_all(&mut table, edges, limit, backward) {
         if let Some(slot) = follow(&table, edges, last) {
             return Ok(Settled::Round(loop_places(alloc, &table, edges, slot)?));
         }
+        backward = !backward;
     }
     Ok(Settled::Numbers(table))
 }
