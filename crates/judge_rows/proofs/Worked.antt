@@ -1,6 +1,7 @@
 -- The worked cases hold by computing.
 use Rattle.std.proofs.Common.{refl}
 use Rattle.judge_rows.specs.Cases.{Counting, Writing, Aliasing, Invariants, Shifting, Copying, Adding, Reading, Keeping, Folding, Filling, Showing, Testing}
+use Rattle.judge_rows.specs.Patterns.{Parting}
 
 pub counting : Counting
 counting = (refl, refl, refl, refl, refl, refl, refl, refl)
@@ -40,3 +41,6 @@ showing = (refl, refl, refl, refl, refl, refl, refl)
 
 pub testing : Testing
 testing = (refl, refl, refl, refl, refl, refl, refl, refl)
+
+pub parting : Parting
+parting = (refl, refl, refl, refl, refl)

@@ -2,6 +2,7 @@
 #![tactic(auto)]
 
 ghost use Rattle.judge_rows.specs.Cases.{Counting, Writing, Aliasing, Invariants, Shifting, Copying, Adding, Reading, Keeping, Folding, Filling, Showing, Testing};
+ghost use Rattle.judge_rows.specs.Patterns.{Parting};
 
 /// A field that is counted on, and the same by two where one is promised.
 pub fn counting()
@@ -66,4 +67,9 @@ pub fn showing()
 /// A fact that is tested at named positions.
 pub fn testing()
     ensures { Testing }
+{}
+
+/// Evidence on whose patterns the order of bounds, a repeated use and the truth of a test tell apart what they decide.
+pub fn parting()
+    ensures { Parting }
 {}

@@ -17,7 +17,7 @@ use Rattle.pv_meaning.specs.Meeting.{term_of}
 use Rattle.pv_meaning.specs.States.{State, Resource, Folded, Cell, Cells, Bind, same_resource, is_among, without_instance, with_amount, without_range}
 use Rattle.pv_meaning.specs.Settings.{Setting, Next, ArrayPart, known_or_picked, look_at_length, operate, or_missing, formula_reader}
 use Rattle.pv_meaning.specs.Permissions.{give, give_range, take_token, or_short, take_instance, has_each}
-use Rattle.pv_meaning.specs.Repetitions.{Range, range_of, shifted, Look, AtElements, AtElement, AtLength, AtTerm, looks_of, cut_by, value_in, look_ahead, notice_parts, notice_cut, cut_if, cut_all}
+use Rattle.pv_meaning.specs.Repetitions.{Range, range_of, shifted, Look, AtElements, AtElement, AtLength, AtTerm, looks_of, cut_by, value_in, look_ahead, notice_parts, notice_cut, unless_empty, cut_all}
 use Rattle.pv_meaning.specs.Exhaling.{Giving, from_at, no_frame, value_from, values_from, fails, holds_or_fails, at_mark, exhale_repeated, exhale, exhale_items, exhale_item}
 use Rattle.pv_meaning.specs.Judge.{End, Blocked}
 use Rattle.meaning_laws.specs.Direct.{Gone, Goes, Ends, Directly, directly, went}
@@ -172,9 +172,8 @@ module _ (table : List Entry) where
   parts_fall [] ends x s h = h
   parts_fall (y ∷ ys) ends x s h = parts_fall ys ends x s h
 
-  cut_falls : (b : Bool) (x y : Directly) (s : State) → Falls x s → Falls y s → Falls (cut_if S b x y) s
-  cut_falls true x y s h k = h
-  cut_falls false x y s h k = k
+  empty_falls : (l : Range) (x y : Directly) (s : State) → Falls x s → Falls y s → Falls (unless_empty S l x y) s
+  empty_falls l x y s h k = if_falls (is_empty l.low l.high) x y s h k
 
   noticed_falls : (c : Cut) (v : Value) (x : Range) (y : Directly) (s : State) → Falls y s → Falls (notice_cut S c v x y) s
   noticed_falls (Below e) v x y s h = h
@@ -185,8 +184,8 @@ module _ (table : List Entry) where
 
   cuts_fall : (q : Giving) (cs : List Cut) (x : Range) (u : Next Directly) → AllFall u → (f : Range → Next Directly) → ((y : Range) → AllFall (f y))
       → AllFall (cut_all S (λ s. q.before) (no_frame S) q.bind cs x u f)
-  cuts_fall q [] x u k f h s = cut_falls (is_empty x.low x.high) _ _ s (k s) (h x s)
-  cuts_fall q (c ∷ cs) x u k f h s = cut_falls (is_empty x.low x.high) _ _ s (k s)
+  cuts_fall q [] x u k f h s = h x s
+  cuts_fall q (c ∷ cs) x u k f h s = empty_falls x _ _ s (k s)
       (value_falls (λ t. q.before) _ frame_falls q.bind (term_of c) _ (λ v later. noticed_falls c v x _ later (cuts_fall q cs (cut_by c v x) u k f h later)) s)
 
   mark_falls : (q : Giving) (n : Name) (e : Expression) (p : Span) (x : Range) (ps : List ArrayPart) (m : ℤ) (f : Next Directly) → AllFall f → AllFall (at_mark S q n e p x ps m f)
@@ -213,12 +212,12 @@ module _ (table : List Entry) where
 
     item_falls : (q : Giving) (n : Name) (x : Range) (i : Item) (f : Next Directly) → AllFall f → AllFall (exhale_item S q n x i f)
     item_falls q n x (Elements t y c a p) f h s =
-        cut_falls (is_empty x.low x.high) _ _ s (h s) (from_falls q y _ (λ v later. range_falls t _ (x.low +ℤ c) (x.high +ℤ c) (shifted (x.low ∷ x.high ∷ x.bounds) c) a _ f later (fails_fall q p later) h) s)
-    item_falls q n x (Repeated e p) f h s = cut_falls (is_empty x.low x.high) _ _ s (h s) (repeated_falls q n e p x f h s)
+        empty_falls x _ _ s (h s) (from_falls q y _ (λ v later. range_falls t _ (x.low +ℤ c) (x.high +ℤ c) (shifted (x.low ∷ x.high ∷ x.bounds) c) a _ f later (fails_fall q p later) h) s)
+    item_falls q n x (Repeated e p) f h s = empty_falls x _ _ s (h s) (repeated_falls q n e p x f h s)
     item_falls q n x (Committed c e p) f h s =
-        cut_falls (is_empty x.low x.high) _ _ s (h s) (from_falls q e _ (λ v later. token_falls token.Committed c _ _ f later (fails_fall q p later) h) s)
+        empty_falls x _ _ s (h s) (from_falls q e _ (λ v later. token_falls token.Committed c _ _ f later (fails_fall q p later) h) s)
     item_falls q n x (Guarded cs i p) f h s = cuts_fall q cs x f h _ (λ y. item_falls q n y i f h) s
-    item_falls q n x (Fixed e F p) f h s = cut_falls (is_empty x.low x.high) _ _ s (h s)
+    item_falls q n x (Fixed e F p) f h s = empty_falls x _ _ s (h s)
         (from_falls q e _ (λ v later. if_falls (within x.low x.high (number_in v)) _ _ later (exhale_falls (from_at q n (number_in v)) F f h later) (h later)) s)
 
 pub was_held : WasHeld

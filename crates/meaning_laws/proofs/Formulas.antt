@@ -66,13 +66,13 @@ module _ {A B : Type 0} (S : Setting A) (T : Setting B) (P : A → B → Type 0)
 
     pub inhale_item_related : (b : Bind) (n : Name) (x : Range) (i : Item) (f : Next A) (g : Next B) → Nexts f g → Nexts (inhale_item S b n x i f) (inhale_item T b n x i g)
     inhale_item_related b n x (Elements t y c a p) f g h s =
-        taking.cut_if_related S T P r (is_empty x.low x.high) _ _ _ _ (h s) (in_value_related b y _ _ (λ v. taking.gain_range_related S T P r t _ _ _ _ a f g h) s)
-    inhale_item_related b n x (Repeated e p) f g h s = taking.cut_if_related S T P r (is_empty x.low x.high) _ _ _ _ (h s) (inhale_repeated_related b n e x f g h s)
+        taking.unless_empty_related S T P r x _ _ _ _ (h s) (in_value_related b y _ _ (λ v. taking.gain_range_related S T P r t _ _ _ _ a f g h) s)
+    inhale_item_related b n x (Repeated e p) f g h s = taking.unless_empty_related S T P r x _ _ _ _ (h s) (inhale_repeated_related b n e x f g h s)
     inhale_item_related b n x (Committed c e p) f g h s =
-        taking.cut_if_related S T P r (is_empty x.low x.high) _ _ _ _ (h s) (in_value_related b e _ _ (λ v. taking.add_token_related S T P r token.Committed c _ f g h) s)
+        taking.unless_empty_related S T P r x _ _ _ _ (h s) (in_value_related b e _ _ (λ v. taking.add_token_related S T P r token.Committed c _ f g h) s)
     inhale_item_related b n x (Guarded cs i p) f g h s =
         taking.cut_all_related S T P r cells_of _ _ (λ q t. r.failed _ _) b cs x f g h _ _ (λ y. inhale_item_related b n y i f g h) s
-    inhale_item_related b n x (Fixed e F p) f g h s = taking.cut_if_related S T P r (is_empty x.low x.high) _ _ _ _ (h s)
+    inhale_item_related b n x (Fixed e F p) f g h s = taking.unless_empty_related S T P r x _ _ _ _ (h s)
         (in_value_related b e _ _ (λ v later. taking.if_within_related S T P r x.low x.high _ _ _ _ _ (h later) (inhale_related (at b n (number_in v)) F f g h later)) s)
 
   -- Exhaling
@@ -120,11 +120,11 @@ module _ {A B : Type 0} (S : Setting A) (T : Setting B) (P : A → B → Type 0)
 
     pub exhale_item_related : (q : Giving) (n : Name) (x : Range) (i : Item) (f : Next A) (g : Next B) → Nexts f g → Nexts (exhale_item S q n x i f) (exhale_item T q n x i g)
     exhale_item_related q n x (Elements t y c a p) f g h s =
-        taking.cut_if_related S T P r (is_empty x.low x.high) _ _ _ _ (h s) (out_value_related q y _ _ (λ v. taking.give_range_related S T P r t _ (x.low +ℤ c) (x.high +ℤ c) _ a _ _ (fails_related q p) f g h) s)
-    exhale_item_related q n x (Repeated e p) f g h s = taking.cut_if_related S T P r (is_empty x.low x.high) _ _ _ _ (h s) (exhale_repeated_related q n e p x f g h s)
+        taking.unless_empty_related S T P r x _ _ _ _ (h s) (out_value_related q y _ _ (λ v. taking.give_range_related S T P r t _ (x.low +ℤ c) (x.high +ℤ c) _ a _ _ (fails_related q p) f g h) s)
+    exhale_item_related q n x (Repeated e p) f g h s = taking.unless_empty_related S T P r x _ _ _ _ (h s) (exhale_repeated_related q n e p x f g h s)
     exhale_item_related q n x (Committed c e p) f g h s =
-        taking.cut_if_related S T P r (is_empty x.low x.high) _ _ _ _ (h s) (out_value_related q e _ _ (λ v. taking.take_token_related S T P r token.Committed c _ _ _ (fails_related q p) f g h) s)
+        taking.unless_empty_related S T P r x _ _ _ _ (h s) (out_value_related q e _ _ (λ v. taking.take_token_related S T P r token.Committed c _ _ _ (fails_related q p) f g h) s)
     exhale_item_related q n x (Guarded cs i p) f g h s =
         taking.cut_all_related S T P r (λ t. q.before) _ _ (λ y t. r.failed _ _) q.bind cs x f g h _ _ (λ y. exhale_item_related q n y i f g h) s
-    exhale_item_related q n x (Fixed e F p) f g h s = taking.cut_if_related S T P r (is_empty x.low x.high) _ _ _ _ (h s)
+    exhale_item_related q n x (Fixed e F p) f g h s = taking.unless_empty_related S T P r x _ _ _ _ (h s)
         (out_value_related q e _ _ (λ v later. taking.if_within_related S T P r x.low x.high _ _ _ _ _ (h later) (exhale_related (exhaling.from_at q n (number_in v)) F f g h later)) s)

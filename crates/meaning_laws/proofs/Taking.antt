@@ -15,7 +15,7 @@ use Rattle.pv_meaning.specs.Meeting.{term_of}
 use Rattle.pv_meaning.specs.States.{State, Resource, Folded, Cell, Cells, Bind, without_instance}
 use Rattle.pv_meaning.specs.Settings.{Setting, Next, ArrayPart, met_as, pick_value, unless_null, if_within, known_or_picked, look_at_length, operate, or_missing, formula_reader}
 use Rattle.pv_meaning.specs.Permissions.{gain_on, gain, gain_field, gain_element, gain_range, give, give_field, give_element, give_range, add_whole, add_token, take_token, add_lock, take_lock, add_instance, or_short, take_instance, has_room, has_each}
-use Rattle.pv_meaning.specs.Repetitions.{Range, Look, AtElements, AtElement, AtLength, AtTerm, cut_by, value_in, look_ahead, notice_parts, notice_bound, notice_cut, cut_if, cut_all}
+use Rattle.pv_meaning.specs.Repetitions.{Range, Look, AtElements, AtElement, AtLength, AtTerm, cut_by, value_in, look_ahead, notice_parts, notice_bound, notice_cut, unless_empty, cut_all}
 use Rattle.meaning_laws.specs.Related.{AreRelated}
 use Rattle.meaning_laws.proofs.Readers.{ReadersRelated, if_related, evaluate_related}
 
@@ -48,7 +48,7 @@ module _ {A B : Type 0} (S : Setting A) (T : Setting B) (P : A → B → Type 0)
   known_or_picked_related None t a f g h s = r.pick _ _ (λ z. r.comparing _ _ _ _ (if_related P (int_le (pos 0) z) _ _ _ _ (h z _) r.blocked))
 
   pub look_at_length_related : (t : PvType) (a : ℕ) (f : ℤ → Next A) (g : ℤ → Next B) → ((z : ℤ) → Nexts (f z) (g z)) → Nexts (look_at_length S t a f) (look_at_length T t a g)
-  look_at_length_related t a f g h s = known_or_picked_related (s.lengths t a) t a f g h s
+  look_at_length_related t a f g h s = r.noticing _ _ _ (known_or_picked_related (s.lengths t a) t a f g h s)
 
   pub operate_related : (m : Manner) (o : Operation) (a b : ℤ) (p : Span) (f : ℤ → Next A) (g : ℤ → Next B) → ((z : ℤ) → Nexts (f z) (g z))
       → Nexts (operate S m o a b p f) (operate T m o a b p g)
@@ -169,9 +169,8 @@ module _ {A B : Type 0} (S : Setting A) (T : Setting B) (P : A → B → Type 0)
   notice_parts_related [] ends u w p = p
   notice_parts_related (x ∷ xs) ends u w p = r.noticing _ _ _ (notice_parts_related xs ends u w p)
 
-  pub cut_if_related : (b : Bool) (x u : A) (y w : B) → P x y → P u w → P (cut_if S b x u) (cut_if T b y w)
-  cut_if_related true x u y w p q = p
-  cut_if_related false x u y w p q = q
+  pub unless_empty_related : (l : Range) (x u : A) (y w : B) → P x y → P u w → P (unless_empty S l x u) (unless_empty T l y w)
+  unless_empty_related l x u y w p q = r.comparing _ _ _ _ (if_related P (is_empty l.low l.high) x u y w p q)
 
   pub notice_cut_related : (c : Cut) (v : Value) (x : Range) (u : A) (w : B) → P u w → P (notice_cut S c v x u) (notice_cut T c v x w)
   notice_cut_related (Below e) v x u w p = notice_bound_related _ x u w p
@@ -183,6 +182,6 @@ module _ {A B : Type 0} (S : Setting A) (T : Setting B) (P : A → B → Type 0)
   pub cut_all_related : (cells : State → Cells) (m : Span → Next A) (n : Span → Next B) → ((p : Span) → Nexts (m p) (n p)) → (b : Bind) (cs : List Cut) (x : Range)
       (u : Next A) (w : Next B) → Nexts u w → (f : Range → Next A) (g : Range → Next B) → ((y : Range) → Nexts (f y) (g y))
       → Nexts (cut_all S cells m b cs x u f) (cut_all T cells n b cs x w g)
-  cut_all_related cells m n q b [] x u w k f g h s = cut_if_related (is_empty x.low x.high) _ _ _ _ (k s) (h x s)
-  cut_all_related cells m n q b (c ∷ cs) x u w k f g h s = cut_if_related (is_empty x.low x.high) _ _ _ _ (k s)
+  cut_all_related cells m n q b [] x u w k f g h s = h x s
+  cut_all_related cells m n q b (c ∷ cs) x u w k f g h s = unless_empty_related x _ _ _ _ (k s)
       (value_in_related cells m n q b (term_of c) _ _ (λ v later. notice_cut_related c v x _ _ (cut_all_related cells m n q b cs (cut_by c v x) u w k f g h later)) s)

@@ -13,7 +13,7 @@ use Rattle.pv_meaning.specs.Evaluation.{evaluate_all}
 use Rattle.pv_meaning.specs.States.{Cells, Bind}
 use Rattle.pv_meaning.specs.Settings.{Setting, Next, ArrayPart, formula_reader, if_within}
 use Rattle.pv_meaning.specs.Permissions.{give_field, give_element, give_range, take_token, take_instance}
-use Rattle.pv_meaning.specs.Repetitions.{Range, range_of, at, shifted, looks_of, value_in, look_ahead, notice_parts, cut_if, cut_all}
+use Rattle.pv_meaning.specs.Repetitions.{Range, range_of, at, shifted, looks_of, value_in, look_ahead, notice_parts, unless_empty, cut_all}
 
 -- what is exhaled from: the cells of the state before, the check that fails, and the span of its failure where that isn't the conjunct's
 pub record Giving : Type 0 where
@@ -84,12 +84,12 @@ module _ {R : Type 0} (setting : Setting R) where
 
     pub exhale_item : Giving → Name → Range → Item → Next R → Next R
     exhale_item f name r (Elements type array shift amount span) next state =
-        cut_if setting (is_empty r.low r.high) (next state)
+        unless_empty setting r (next state)
         (value_from f array (λ a. give_range setting type (reference_in a) (r.low +ℤ shift) (r.high +ℤ shift) (shifted (r.low ∷ r.high ∷ r.bounds) shift) amount (fails f span) next) state)
-    exhale_item f name r (Repeated e span) next state = cut_if setting (is_empty r.low r.high) (next state) (exhale_repeated f name e span r next state)
+    exhale_item f name r (Repeated e span) next state = unless_empty setting r (next state) (exhale_repeated f name e span r next state)
     exhale_item f name r (Committed class e span) next state =
-        cut_if setting (is_empty r.low r.high) (next state) (value_from f e (λ o. take_token setting token.Committed class (reference_in o) (fails f span) next) state)
+        unless_empty setting r (next state) (value_from f e (λ o. take_token setting token.Committed class (reference_in o) (fails f span) next) state)
     exhale_item f name r (Guarded cuts item span) next state = cut_all setting (λ s. f.before) no_frame f.bind cuts r next (λ cut. exhale_item f name cut item next) state
     exhale_item f name r (Fixed e body span) next state =
-        cut_if setting (is_empty r.low r.high) (next state)
+        unless_empty setting r (next state)
         (value_from f e (λ v later. if_within setting r.low r.high (number_in v) (next later) (exhale (from_at f name (number_in v)) body next later)) state)

@@ -11,7 +11,7 @@ use Rattle.pv_meaning.specs.Evaluation.{evaluate_all}
 use Rattle.pv_meaning.specs.States.{State, Bind, cells_of}
 use Rattle.pv_meaning.specs.Settings.{Setting, Next, Known, ArrayPart, formula_reader, if_within}
 use Rattle.pv_meaning.specs.Permissions.{gain_field, gain_element, gain_range, add_token, add_instance}
-use Rattle.pv_meaning.specs.Repetitions.{Range, range_of, at, shifted, looks_of, test_at, value_in, look_ahead, notice_parts, cut_if, cut_all}
+use Rattle.pv_meaning.specs.Repetitions.{Range, range_of, at, shifted, looks_of, test_at, value_in, look_ahead, notice_parts, unless_empty, cut_all}
 use Rattle.pv_ast.specs.declared.Token.TheVariants as token
 
 module _ {R : Type 0} (setting : Setting R) where
@@ -69,12 +69,12 @@ module _ {R : Type 0} (setting : Setting R) where
 
     pub inhale_item : Bind → Name → Range → Item → Next R → Next R
     inhale_item bind name r (Elements type array shift amount span) next state =
-        cut_if setting (is_empty r.low r.high) (next state)
+        unless_empty setting r (next state)
         (value_of bind array (λ a. gain_range setting type (reference_in a) (r.low +ℤ shift) (r.high +ℤ shift) (shifted (r.low ∷ r.high ∷ r.bounds) shift) amount next) state)
-    inhale_item bind name r (Repeated e span) next state = cut_if setting (is_empty r.low r.high) (next state) (inhale_repeated bind name e r next state)
+    inhale_item bind name r (Repeated e span) next state = unless_empty setting r (next state) (inhale_repeated bind name e r next state)
     inhale_item bind name r (Committed class e span) next state =
-        cut_if setting (is_empty r.low r.high) (next state) (value_of bind e (λ o. add_token setting token.Committed class (reference_in o) next) state)
+        unless_empty setting r (next state) (value_of bind e (λ o. add_token setting token.Committed class (reference_in o) next) state)
     inhale_item bind name r (Guarded cuts item span) next state = cut_all setting cells_of no_frame bind cuts r next (λ cut. inhale_item bind name cut item next) state
     inhale_item bind name r (Fixed e body span) next state =
-        cut_if setting (is_empty r.low r.high) (next state)
+        unless_empty setting r (next state)
         (value_of bind e (λ v later. if_within setting r.low r.high (number_in v) (next later) (inhale (at bind name (number_in v)) body next later)) state)

@@ -89,12 +89,13 @@ use_of operation a b = if ordered operation a b then (operation, a, b) else (ope
 
 abbrev pub use_if : Bool → Use → ℤ → Lazily → Lazily
 use_if true u z rest memory picks = rest memory picks
-use_if false u z rest memory picks = showing (shown_of_use u memory.uses) (taking z (rest (record memory { uses = memory.uses ++ u ∷ [] }) picks))
+use_if false u z rest memory picks = taking z (rest (record memory { uses = memory.uses ++ u ∷ [] }) picks)
 
--- the value of an operation is taken when its operator and arguments are first used
+-- a use is held against those before it; its value is taken where its operator and arguments are used for the first time
 abbrev pub lazy_use : List Entry → Operation → ℤ → ℤ → Lazily → Lazily
 lazy_use table operation a b rest memory picks =
-    use_if (list_any (same_use (use_of operation a b)) memory.uses) (use_of operation a b) (value_of_operation table operation a b) rest memory picks
+    showing (shown_of_use (use_of operation a b) memory.uses)
+    (use_if (list_any (same_use (use_of operation a b)) memory.uses) (use_of operation a b) (value_of_operation table operation a b) rest memory picks)
 
 abbrev pub remember_event : Event → Lazily → Lazily
 remember_event event rest memory picks = showing (shown_with memory.known event memory.events) (rest (record memory { events = memory.events ++ event ∷ [] }) picks)

@@ -12,7 +12,7 @@ use Rattle.pv_meaning.specs.Values.{number_in, truth_in, reference_in, arithmeti
 use Rattle.pv_meaning.specs.Evaluation.{Reader, evaluate}
 use Rattle.pv_meaning.specs.Meeting.{term_of}
 use Rattle.pv_meaning.specs.States.{State, Cell, Cells, Bind, InField, InElement, cells_of}
-use Rattle.pv_meaning.specs.Settings.{Setting, Next, AtField, AtArray, Noticed, Compared, Matched, Decided, Used, Happened, Read, Tested, ArrayPart, ends_of, unless_null, look_at_length, formula_reader}
+use Rattle.pv_meaning.specs.Settings.{Setting, Next, AtField, AtArray, AtArrayLength, Noticed, Compared, Matched, Decided, Used, Happened, Read, Tested, ArrayPart, ends_of, unless_null, look_at_length, formula_reader}
 
 abbrev pub at : Bind → Name → ℤ → Bind
 at bind name position = record bind { scene = record { this = bind.scene.this; variables = at_position bind.scene.variables name position; result = bind.scene.result } }
@@ -140,7 +140,7 @@ abbrev pub test_reader : (Operation → ℤ → ℤ → ℤ) → State → Cells
 test_reader given state cells = record {
   field = λ class object name span next. noting (Happened (AtField class object name)) (cell_tested (cells (InField class object name)) next);
   element = λ type array index span next. cell_tested (cells (InElement type array index)) next;
-  length = λ type array span next. if nat_eq array 0 then untestable else or_untestable (state.lengths type array) next;
+  length = λ type array span next. if nat_eq array 0 then untestable else noting (Happened (AtArrayLength type array)) (or_untestable (state.lengths type array) next);
   operation = operation_tested given;
   comparing = λ a b rest. noting (Compared a b) rest;
   matching = λ a b rest. noting (Matched a b) rest;
@@ -148,7 +148,7 @@ test_reader given state cells = record {
 }
 
 abbrev pub tested : Value → Tested
-tested v = record { truth = Some (truth_in v); noticed = [] }
+tested v = record { truth = Some (truth_in v); noticed = Decided (truth_in v) ∷ [] }
 
 abbrev pub test_at : (Operation → ℤ → ℤ → ℤ) → State → Bind → Name → Expression → ℤ → Tested
 test_at given state bind name e position =
@@ -185,10 +185,9 @@ module _ {R : Type 0} (setting : Setting R) where
   notice_parts [] ends rest = rest
   notice_parts (part ∷ parts) ends rest = setting.noticing (AtArray part.type part.array (shifted ends part.shift)) (notice_parts parts ends rest)
 
-  -- a guard behind an empty range isn't looked at
-  abbrev pub cut_if : Bool → R → R → R
-  cut_if true nothing rest = nothing
-  cut_if false nothing rest = rest
+  -- goes on where the range isn't empty
+  abbrev pub unless_empty : Range → R → R → R
+  unless_empty r nothing rest = setting.comparing r.low r.high (if is_empty r.low r.high then nothing else rest)
 
   abbrev pub notice_cut : Cut → Value → Range → R → R
   notice_cut (Below e) v r rest = notice_bound (number_in v) r rest
@@ -197,9 +196,9 @@ module _ {R : Type 0} (setting : Setting R) where
   notice_cut (From e) v r rest = notice_bound (number_in v) r rest
   notice_cut (Provided e) v r rest = setting.deciding (truth_in v) rest
 
-  -- goes on with what the guards leave of a range, or otherwise where that is nothing
+  -- goes on with what the guards leave of a range; a guard behind an empty range isn't looked at
   abbrev pub cut_all : (State → Cells) → (Span → Next R) → Bind → List Cut → Range → Next R → (Range → Next R) → Next R
-  cut_all cells missing bind [] r nothing next state = cut_if (is_empty r.low r.high) (nothing state) (next r state)
+  cut_all cells missing bind [] r nothing next state = next r state
   cut_all cells missing bind (cut ∷ cuts) r nothing next state =
-      cut_if (is_empty r.low r.high) (nothing state)
+      unless_empty r (nothing state)
       (value_in cells missing bind (term_of cut) (λ v later. notice_cut cut v r (cut_all cells missing bind cuts (cut_by cut v r) nothing next later)) state)

@@ -24,6 +24,8 @@ pub data Event : Type 0 where
   AtInstance : Name → Name → ℕ → List Value → Event
   -- type of the elements, array, the ends: first index, the one after the last, bounds
   AtArray : PvType → ℕ → List ℤ → Event
+  -- type of the elements, array, at whose length it looks
+  AtArrayLength : PvType → ℕ → Event
 
 -- what the test of a fact at one position comes to: the truth value, or none where it can't be evaluated; and what is noticed of it
 pub data Noticed : Type 0 where
@@ -121,7 +123,7 @@ module _ {R : Type 0} (setting : Setting R) where
       setting.pick (λ z. setting.comparing z (pos 0) (if int_le (pos 0) z then next z (with_length state type array z) else setting.blocked))
 
   abbrev pub look_at_length : PvType → ℕ → (ℤ → Next R) → Next R
-  look_at_length type array next state = known_or_picked (state.lengths type array) type array next state
+  look_at_length type array next state = setting.noticing (AtArrayLength type array) (known_or_picked (state.lengths type array) type array next state)
 
   abbrev pub operate : Manner → Operation → ℤ → ℤ → Span → (ℤ → Next R) → Next R
   operate Plain operation a b span next state = next (arithmetic operation a b) state
