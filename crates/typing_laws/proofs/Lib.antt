@@ -1,6 +1,8 @@
 mod Types
 mod Scopes
 mod Places
+mod Forms
+mod Purity
 mod Expressions
 mod Uses
 mod Statements

@@ -1,6 +1,8 @@
 -- What a well formed program becomes is well typed.
 use Rattle.std.proofs.Common.{◌≡◌, ℕ, ◌+◌, Bool, true, false, not, ◌&&◌, Option, Some, None, is_some, option_map, unwrap_or, List, [], ◌∷◌, map, refl, sym, ◌∙◌, ap, subst}
-use Rattle.std.proofs.lemmas.Bool.{or_left, or_right}
+use Rattle.std.proofs.lemmas.Bool.{or_left, or_right, eqb-true, eq-eqb}
+use Rattle.std.specs.Prelude.{nat_eq, if◌then◌else◌}
+use Rattle.std.specs.List.{filter_map}
 use Rattle.pv_base.specs.declared.Name.{Name}
 use Rattle.pv_base.specs.declared.Span.{Span}
 use Rattle.pv_ast.specs.declared.TypeWord.{TypeWord}
@@ -11,6 +13,9 @@ use Rattle.pv_ast.specs.declared.Stmt.{Stmt}
 use Rattle.pv_ast.specs.declared.StmtKind.{StmtKind, StmtKind-F, out-StmtKind}
 use Rattle.pv_ast.specs.declared.Method.{Method}
 use Rattle.pv_ast.specs.declared.RunMethod.{RunMethod}
+use Rattle.pv_ast.specs.declared.Predicate.{Predicate}
+use Rattle.pv_ast.specs.declared.Member.{Member}
+use Rattle.pv_ast.specs.declared.Member.TheVariants as member
 use Rattle.pv_ast.specs.declared.Class.{Class}
 use Rattle.pv_ast.specs.declared.Program.{Program}
 use Rattle.pv_rules.specs.declared.fault.Rule.TheVariants as rule
@@ -26,18 +31,20 @@ use Rattle.pv_rules.specs.Programs.{in_class, at_body, is_value_return, ends_wit
 use Rattle.pv_rules.specs.WellFormed.{IsWellFormed}
 use Rattle.pv_meaning.specs.Core.{Block}
 use Rattle.pv_meaning.specs.Core as core
+use Rattle.pv_meaning.specs.Members as members
+use Rattle.pv_meaning.specs.Members.{first_that, predicate_of}
 use Rattle.pv_picks.specs.Names.{parameters_of}
 use Rattle.pv_picks.specs.Statements.{StmtPiece, Site, at, block_from, outermost, core_of_body, piece_in_stmt_kind, piece_of_stmt}
-use Rattle.pv_picks.specs.Programs.{core_of, in_method, parameters_in_scope, core_of_method, core_of_run}
+use Rattle.pv_picks.specs.Programs.{core_of, in_method, parameters_in_scope, core_of_class, core_of_member, core_of_method, core_of_run, core_of_predicate}
 use Rattle.pv_picks.proofs.Clean.{Clean, clean_from, if_fails}
-use Rattle.pv_picks.proofs.Mirrors.{first_run, core_mirrors, method_at, run_at, method_found, run_found}
+use Rattle.pv_picks.proofs.Mirrors.{first_run, class_found, core_mirrors, method_at, run_at, method_found, run_found}
 use Rattle.pv_picks.proofs.Sound.{Sound}
 use Rattle.pv_picks.proofs.StmtLayers.{layer_of, kind_rolled, stmt_rolled, parts_in_pieces}
 use Rattle.pv_picks.proofs.Whole.{sound_class, sound_params, sound_result, result_declared}
 use Rattle.typed_programs.specs.Expressions.{Home}
 use Rattle.typed_programs.specs.Blocks.{types_of, gives_statement, gives, BlockFits, ends, home_of, over, MethodFits, ProgramFits}
 use Rattle.typing_laws.proofs.Scopes.{nothing_listed, params_listed}
-use Rattle.typing_laws.proofs.Places.{Declares, IsMethodThere, Place}
+use Rattle.typing_laws.proofs.Places.{Declares, IsMethodThere, IsPredicateThere, Place}
 use Rattle.typing_laws.proofs.Expressions.{no_first, no_second}
 use Rattle.typing_laws.proofs.Statements.{Returns, statement_law}
 use Rattle.typing_laws.proofs.Members.{found_of, found_name, IsClean, classes_clean, IsCleanMethod, methods_clean, IsCleanRun, run_clean}
@@ -57,6 +64,39 @@ method_there p (Some c) class name m there is = record {
   result = refl;
 }
 
+-- a predicate of the name
+found_map : {A B : Type 0} (f : A → B) (b c : Bool) (x : A) (o : Option A) (q : Option B) (y : A) → b ≡ c → (o ≡ Some y → q ≡ Some (f y)) → (if c then Some x else o) ≡ Some y → (if b then Some (f x) else q) ≡ Some (f y)
+found_map f true true x o q y same h k = let is : x ≡ y = cc in ap (λ z. Some (f z)) is
+found_map f false false x o q y same h k = h k
+found_map f true false x o q y same h k = absurd cc
+found_map f false true x o q y same h k = absurd cc
+
+same_truth : (a b : Bool) → (a ≡ true → b ≡ true) → (b ≡ true → a ≡ true) → a ≡ b
+same_truth true b h k = sym (h refl)
+same_truth false true h k = k refl
+same_truth false false h k = refl
+
+either_way : (m n : ℕ) → nat_eq m n ≡ nat_eq n m
+either_way m n = same_truth (nat_eq m n) (nat_eq n m) (λ h. eq-eqb n m (sym (eqb-true m n h))) (λ h. eq-eqb m n (sym (eqb-true n m h)))
+
+predicate_among : (a : Around) (name : Name) (ms : List Member) (q : Predicate) → rules.predicate_named ms name ≡ Some q
+    → first_that (λ (q : core.Predicate). nat_eq q.name.0 name.0) (filter_map predicate_of (map (core_of_member a) ms)) ≡ Some (core_of_predicate a q)
+predicate_among a name [] q is = absurd cc
+predicate_among a name (member.Field f ∷ ms) q is = predicate_among a name ms q is
+predicate_among a name (member.Predicate x ∷ ms) q is =
+    found_map (core_of_predicate a) (nat_eq x.name.name.0 name.0) (nat_eq name.0 x.name.name.0) x (rules.predicate_named ms name) _ q (either_way x.name.name.0 name.0) (λ k. predicate_among a name ms q k) is
+predicate_among a name (member.Method m ∷ ms) q is = predicate_among a name ms q is
+predicate_among a name (member.Run r ∷ ms) q is = predicate_among a name ms q is
+
+predicate_there : (p : Program) (o : Option Class) (class name : Name) (q : Predicate) → class_named p.classes class ≡ o → rules.predicate_named (members_of o) name ≡ Some q → IsPredicateThere (core_of p) class name q
+predicate_there p None class name q there is = absurd cc
+predicate_there p (Some c) class name q there is = record {
+  there = core_of_predicate (in_class p c) q;
+  found = ap (λ c. first_that (λ (q : core.Predicate). nat_eq q.name.0 name.0) (filter_map predicate_of (members.members_of c))) (class_found p class ∙ ap (option_map (core_of_class p)) there)
+      ∙ predicate_among (in_class p c) name c.members q is;
+  types = same_types q.params;
+}
+
 method_result : (p : Program) (o : Option Class) (class name : Name) (m : Method) (type : PvType) → ((c : Class) → o ≡ Some c → IsClean p c) → rules.method_named (members_of o) name ≡ Some m → option_type m.result ≡ Some type
     → is_declared_type p.classes type ≡ true
 method_result p None class name m type clean is result = absurd cc
@@ -70,6 +110,7 @@ declares : (p : Program) → ((class : Name) (c : Class) → class_named p.class
 declares p clean = record {
   fields = λ class field type is. (core_mirrors p).fields class field ∙ is;
   methods = λ class name m is. method_there p (class_named p.classes class) class name m refl is;
+  predicates = λ class name q is. predicate_there p (class_named p.classes class) class name q refl is;
   results = λ class name m type is result. method_result p (class_named p.classes class) class name m type (clean class) is result;
 }
 

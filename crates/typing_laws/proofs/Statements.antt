@@ -24,7 +24,7 @@ use Rattle.pv_rules.specs.Parts.{Around}
 use Rattle.pv_rules.specs.Shapes as shapes
 use Rattle.pv_rules.specs.Shapes.{quantifiers_in, quantifiers_in_option, quantifiers_in_all, quantifiers_in_right, quantifiers_in_range, faults_of_formulas as shapes_of_formulas, faults_of_item_contract, faults_of_each, faults_in_stmt_kind as shapes_in_stmt_kind, faults_in_stmt, faults_of_stmt, faults_of_stmt_kind}
 use Rattle.pv_rules.specs.Statements as statements
-use Rattle.pv_rules.specs.Statements.{StmtPart, faults_of_statements, in_branch, in_while, among_members, need_like, need_of_result, is_return_place, with_block}
+use Rattle.pv_rules.specs.Statements.{StmtPart, faults_of_statements, in_statement, in_branch, in_while, among_members, need_like, need_of_result, is_return_place, with_block}
 use Rattle.pv_meaning.specs.Core.{Expression, Block, Statement}
 use Rattle.pv_meaning.specs.Core as core
 use Rattle.pv_picks.specs.Pieces.{piece_of, object_of}
@@ -33,10 +33,10 @@ use Rattle.pv_picks.proofs.Clean.{Clean, unless_holds, if_fails}
 use Rattle.pv_picks.proofs.Sound.{sound_with}
 use Rattle.pv_picks.proofs.StmtLayers.{layer_of, kind_at_roll, stmt_at_roll}
 use Rattle.pv_picks.proofs.Stmts.{sound_for, sound_par}
-use Rattle.typed_programs.specs.Expressions.{Home, IsOf}
-use Rattle.typed_programs.specs.Blocks.{inside, BlockFits, StatementFits, ends, goes_first, declares, assigns, branches, loops, opens, meets, acts, folds, unfolds, asserts, sends, receives, leaves, answers}
+use Rattle.typed_programs.specs.Expressions.{Home, silent, IsOf}
+use Rattle.typed_programs.specs.Blocks.{types_of, inside, BlockFits, StatementFits, ends, goes_first, declares, assigns, branches, loops, opens, meets, acts, folds, unfolds, asserts, sends, receives, leaves, answers}
 use Rattle.typing_laws.proofs.Scopes.{not_listed, variable_listed, loop_listed, block_name_listed}
-use Rattle.typing_laws.proofs.Places.{Place}
+use Rattle.typing_laws.proofs.Places.{Place, statement_strict}
 use Rattle.typing_laws.proofs.Expressions.{no_first, no_second}
 use Rattle.typing_laws.proofs.Uses.{goes, object_goes, object_at, instance_at, call_goes, right_goes, first_goes, target_at}
 
@@ -181,15 +181,15 @@ while_law es e body = λ h a v xs spot span site around place returns clean none
 
 fold_law : (target : Option Expr) (w : Word) (args : List Expr) → LayerLaw (StmtKind-F.Fold target w args)
 fold_law target w args = λ h a v xs spot span site around place returns clean none.
-    let o = object_at target h a v xs place clean.0 (no_first (quantifiers_in_option target) (quantifiers_in_all args) none) in
-    let i = instance_at target w args h a v xs o place clean.1 (no_second (quantifiers_in_option target) (quantifiers_in_all args) none) in
-    still place (folds i.0 (subst (λ class. IsOf h xs (object_of (option_map piece_of target) a v) (Object class)) (sym o.named) o.goes) i.1)
+    let o = object_at target h silent a v xs in_statement place (statement_strict a) clean.0 (no_first (quantifiers_in_option target) (quantifiers_in_all args) none) in
+    let i = instance_at target w args h silent a v xs in_statement o place (statement_strict a) clean.1 (no_second (quantifiers_in_option target) (quantifiers_in_all args) none) in
+    still place (folds (types_of i.predicate.parameters) (subst (λ class. IsOf h xs (object_of (option_map piece_of target) a v) (Object class)) (sym o.named) o.goes) i.arguments)
 
 unfold_law : (target : Option Expr) (w : Word) (args : List Expr) → LayerLaw (StmtKind-F.Unfold target w args)
 unfold_law target w args = λ h a v xs spot span site around place returns clean none.
-    let o = object_at target h a v xs place clean.0 (no_first (quantifiers_in_option target) (quantifiers_in_all args) none) in
-    let i = instance_at target w args h a v xs o place clean.1 (no_second (quantifiers_in_option target) (quantifiers_in_all args) none) in
-    still place (unfolds i.0 (subst (λ class. IsOf h xs (object_of (option_map piece_of target) a v) (Object class)) (sym o.named) o.goes) i.1)
+    let o = object_at target h silent a v xs in_statement place (statement_strict a) clean.0 (no_first (quantifiers_in_option target) (quantifiers_in_all args) none) in
+    let i = instance_at target w args h silent a v xs in_statement o place (statement_strict a) clean.1 (no_second (quantifiers_in_option target) (quantifiers_in_all args) none) in
+    still place (unfolds (types_of i.predicate.parameters) (subst (λ class. IsOf h xs (object_of (option_map piece_of target) a v) (Object class)) (sym o.named) o.goes) i.arguments)
 
 -- the last statement of a method's body
 returned_type : (a : Around) (spot : Spot) (e : Expr) (o : Option PvType) → a.result ≡ o → (spot.last && spot.method && is_some o) ≡ true → (type : PvType) × (a.result ≡ Some type) × (spot.last ≡ true)
