@@ -6,5 +6,8 @@ mod Purity
 mod Expressions
 mod Uses
 mod Statements
+mod Parts
+mod Formulas
 mod Members
 mod Programs
+mod Contracts

@@ -185,16 +185,26 @@ pub record ClassAt (p : Program) (class : Name) (c : Class) : Type 0 where
   pub sound : Sound (core_of p) (in_class p c) nothing_visible
   pub declares : Declares p (core_of p)
 
-method_fits : (p : Program) (class : Name) (c : Class) (m : Method) → ClassAt p class c → IsCleanMethod (in_class p c) m → MethodFits (core_of p) class (core_of_method (in_class p c) m)
-method_fits p class c m at f =
+-- where the contract and the body of a method stand, and those of a `run`
+pub method_place : (p : Program) (class : Name) (c : Class) (m : Method) (answer : Option PvType) → ClassAt p class c → IsCleanMethod (in_class p c) m
+    → Place (record { program = core_of p; class = class; answer = answer }) (in_method (in_class p c) m) (parameters_in_scope m) (over [] (parameters_of m.params))
+method_place p class c m answer at f =
     let a : Around = in_method (in_class p c) m in
-    let h : Home = home_of (core_of p) class (core_of_method (in_class p c) m) in
-    let place : Place h a (parameters_in_scope m) (over [] (parameters_of m.params)) = record {
+    record {
       sound = sound_params (core_of p) a nothing_visible m.params (sound_result (core_of p) (in_class p c) nothing_visible m.result at.sound f.0.0) f.0.1.0;
       declares = at.declares;
       class = sym at.name;
       listed = params_listed a nothing_visible [] m.params f.0.1.0 nothing_listed;
-    } in
+    }
+
+pub class_place : (p : Program) (class : Name) (c : Class) (answer : Option PvType) → ClassAt p class c → Place (record { program = core_of p; class = class; answer = answer }) (in_class p c) nothing_visible []
+class_place p class c answer at = record { sound = at.sound; declares = at.declares; class = sym at.name; listed = nothing_listed }
+
+method_fits : (p : Program) (class : Name) (c : Class) (m : Method) → ClassAt p class c → IsCleanMethod (in_class p c) m → MethodFits (core_of p) class (core_of_method (in_class p c) m)
+method_fits p class c m at f =
+    let a : Around = in_method (in_class p c) m in
+    let h : Home = home_of (core_of p) class (core_of_method (in_class p c) m) in
+    let place : Place h a (parameters_in_scope m) (over [] (parameters_of m.params)) = method_place p class c m h.answer at f in
     record {
       body = whole_body m.body h a (parameters_in_scope m) (over [] (parameters_of m.params)) true place
           (λ there last type is. ap (λ o. Some (unwrap_or o Null)) is) f.0.1.1.1.0 (no_second (shapes.faults_of_contract m.contract) _ f.1);
@@ -205,9 +215,8 @@ method_fits p class c m at f =
 run_fits : (p : Program) (class : Name) (c : Class) (r : RunMethod) → ClassAt p class c → IsCleanRun (in_class p c) r → MethodFits (core_of p) class (core_of_run (in_class p c) r)
 run_fits p class c r at f =
     let h : Home = home_of (core_of p) class (core_of_run (in_class p c) r) in
-    let place : Place h (in_class p c) nothing_visible [] = record { sound = at.sound; declares = at.declares; class = sym at.name; listed = nothing_listed } in
     record {
-      body = whole_body r.body h (in_class p c) nothing_visible [] false place (λ there last type is. absurd (no_type type is)) f.0.1 (no_second (shapes.faults_of_contract r.contract) _ f.1);
+      body = whole_body r.body h (in_class p c) nothing_visible [] false (class_place p class c h.answer at) (λ there last type is. absurd (no_type type is)) f.0.1 (no_second (shapes.faults_of_contract r.contract) _ f.1);
       result = λ type is. absurd (no_type type is);
     }
 
@@ -235,7 +244,7 @@ module _ (p : Program) (well_formed : IsWellFormed p) where
   class_clean : (class : Name) (c : Class) → class_named p.classes class ≡ Some c → IsClean p c
   class_clean class c is = found_of (IsClean p) (λ c. c.name.name) p.classes class c (classes_clean p p.classes all_clean.1 well_formed.shapes) is
 
-  class_at : (class : Name) (c : Class) → class_named p.classes class ≡ Some c → ClassAt p class c
+  pub class_at : (class : Name) (c : Class) → class_named p.classes class ≡ Some c → ClassAt p class c
   class_at class c is =
       let name : class ≡ c.name.name = found_name (λ c. c.name.name) p.classes class c is in
       record {

@@ -170,7 +170,7 @@ Kinds = (k : ExprKind) × KindLaw (piece_of_kind k)
 abbrev Eaches : Type 0
 Eaches = (q : Each) × EachLaw (piece_of_each q)
 
-abbrev Exprs : Type 0
+abbrev pub Exprs : Type 0
 Exprs = (e : Expr) × ExprLaw (piece_of e)
 
 abbrev without : ExprKind-F Kinds Eaches Exprs → ExprKind-F ExprKind Each Expr
@@ -219,14 +219,14 @@ no_guard true = refl
 no_guard false = refl
 
 -- both sides of an operator of numbers
-numbers_pure : (x y : Exprs) (h : Home) (a : Around) (v : Visible) (xs : List core.Parameter) (c : Context) → Place h a v xs → Clean ((piece_of x.0).part.faults a v c (Exactly Int)) → Clean ((piece_of y.0).part.faults a v c (Exactly Int))
+pub numbers_pure : (x y : Exprs) (h : Home) (a : Around) (v : Visible) (xs : List core.Parameter) (c : Context) → Place h a v xs → Clean ((piece_of x.0).part.faults a v c (Exactly Int)) → Clean ((piece_of y.0).part.faults a v c (Exactly Int))
     → ((piece_of x.0).shape.facts 0).pure && ((piece_of y.0).shape.facts 0).pure ≡ true
 numbers_pure x y h a v xs c place clean_x clean_y =
     and_from _ _ (x.1 h a v xs c (Exactly Int) place clean_x (typed (other_int _ (meets_at x.0 h a v xs c (Exactly Int) place clean_x))))
     (y.1 h a v xs c (Exactly Int) place clean_y (typed (other_int _ (meets_at y.0 h a v xs c (Exactly Int) place clean_y))))
 
 -- both sides where each stands in a pure context and no quantifier does
-sides_pure : (x y : Exprs) (h : Home) (a : Around) (v : Visible) (xs : List core.Parameter) (c d : Context) (need : Need) → Place h a v xs → Clean ((piece_of x.0).part.faults a v c need) → Clean ((piece_of y.0).part.faults a v d need)
+pub sides_pure : (x y : Exprs) (h : Home) (a : Around) (v : Visible) (xs : List core.Parameter) (c d : Context) (need : Need) → Place h a v xs → Clean ((piece_of x.0).part.faults a v c need) → Clean ((piece_of y.0).part.faults a v d need)
     → c.pure ≡ true → d.pure ≡ true → (piece_of x.0).shape.quantifiers ++ (piece_of y.0).shape.quantifiers ≡ []
     → ((piece_of x.0).shape.facts 0).pure && ((piece_of y.0).shape.facts 0).pure ≡ true
 sides_pure x y h a v xs c d need place clean_x clean_y pure_x pure_y none =
@@ -234,7 +234,7 @@ sides_pure x y h a v xs c d need place clean_x clean_y pure_x pure_y none =
     (y.1 h a v xs d need place clean_y (purely pure_y (no_second (piece_of x.0).shape.quantifiers (piece_of y.0).shape.quantifiers none)))
 
 -- an equality of a position and a term
-position_first : (x y : Exprs) (h : Home) (a : Around) (v : Visible) (xs : List core.Parameter) (c : Context) (name : Name) → Place h a v xs → IsPosition v name
+pub position_first : (x y : Exprs) (h : Home) (a : Around) (v : Visible) (xs : List core.Parameter) (c : Context) (name : Name) → Place h a v xs → IsPosition v name
     → Clean ((piece_of x.0).part.faults a v c Anything) → Clean ((piece_of y.0).part.faults a v c Anything) → is_variable ((piece_of x.0).shape.facts name.0).form ≡ true
     → typing.meets (Exactly Truth) (typing.typing_of_equality (typing_in (piece_of x.0).part a v) (typing_in (piece_of y.0).part a v)) ≡ true
     → ((piece_of x.0).shape.facts 0).pure && ((piece_of y.0).shape.facts 0).pure ≡ true
@@ -244,7 +244,7 @@ position_first x y h a v xs c name place p clean_x clean_y is m =
     (y.1 h a v xs c Anything place clean_y (typed (beside_left (typing_in (piece_of y.0).part a v)
     (subst (λ (t : Typing). typing.meets (Exactly Truth) (typing.typing_of_equality t (typing_in (piece_of y.0).part a v)) ≡ true) number m))))
 
-position_second : (x y : Exprs) (h : Home) (a : Around) (v : Visible) (xs : List core.Parameter) (c : Context) (name : Name) → Place h a v xs → IsPosition v name
+pub position_second : (x y : Exprs) (h : Home) (a : Around) (v : Visible) (xs : List core.Parameter) (c : Context) (name : Name) → Place h a v xs → IsPosition v name
     → Clean ((piece_of x.0).part.faults a v c Anything) → Clean ((piece_of y.0).part.faults a v c Anything) → is_variable ((piece_of y.0).shape.facts name.0).form ≡ true
     → typing.meets (Exactly Truth) (typing.typing_of_equality (typing_in (piece_of x.0).part a v) (typing_in (piece_of y.0).part a v)) ≡ true
     → ((piece_of x.0).shape.facts 0).pure && ((piece_of y.0).shape.facts 0).pure ≡ true

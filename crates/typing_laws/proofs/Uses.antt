@@ -324,7 +324,7 @@ pub record TargetAt (h : Home) (a : Around) (v : Visible) (xs : List core.Parame
   pub need : need_like (typing_in (part_of e) a v) ≡ Exactly type
   pub target : TargetFits h xs (core_of_target a v e) type
 
-typed_place : (t : Typing) → typing.meets Anything t ≡ true → (type : PvType) × (t ≡ Typed type)
+pub typed_place : (t : Typing) → typing.meets Anything t ≡ true → (type : PvType) × (t ≡ Typed type)
 typed_place (Typed type) m = (type, refl)
 typed_place Unsettled m = absurd cc
 typed_place Untyped m = absurd cc
