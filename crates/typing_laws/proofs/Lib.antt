@@ -7,6 +7,8 @@ mod Expressions
 mod Uses
 mod Statements
 mod Parts
+mod Made
+mod Joined
 mod Formulas
 mod Members
 mod Programs
