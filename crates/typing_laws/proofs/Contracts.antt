@@ -41,47 +41,8 @@ use Rattle.typing_laws.proofs.Scopes.{nothing_listed, params_listed}
 use Rattle.typing_laws.proofs.Places.{Place, Speaks, says_nothing}
 use Rattle.typing_laws.proofs.Expressions.{no_first, no_second}
 use Rattle.typing_laws.proofs.Formulas.{formula_fits}
-use Rattle.typing_laws.proofs.Programs.{ClassAt, class_at, method_place, class_place}
-
-pub joined_fits : (h : Home) (speech : Speech) (xs : List core.Parameter) (fs : List Formula) → AllByRecursion (FormulaFits h speech xs) fs → FormulaFits h speech xs (joined fs)
-joined_fits h speech xs [] all = refl
-joined_fits h speech xs (f ∷ []) all = all.0
-joined_fits h speech xs (f ∷ g ∷ fs) all = (all.0, joined_fits h speech xs (g ∷ fs) all.1)
-
--- the clauses that stand there, in a context of which the speech may speak
-abbrev pub SpeaksAt : Speech → Around → (ClauseKind → Bool) → Context → Context → Type 0
-SpeaksAt speech a stands ensures others = (k : ClauseKind) → stands k ≡ true → Speaks speech a (if is_ensures k then ensures else others)
-
-pub speaks_before : (speech : Speech) (a : Around) (ensures others : Context) → Speaks speech a others → SpeaksAt speech a stands_before ensures others
-speaks_before speech a ensures others speaks Requires k = speaks
-speaks_before speech a ensures others speaks Ensures k = absurd cc
-speaks_before speech a ensures others speaks ContextClause k = speaks
-
-pub speaks_after : (speech : Speech) (a : Around) (ensures others : Context) → Speaks speech a ensures → Speaks speech a others → SpeaksAt speech a stands_after ensures others
-speaks_after speech a ensures others ends speaks Requires k = absurd cc
-speaks_after speech a ensures others ends speaks Ensures k = ends
-speaks_after speech a ensures others ends speaks ContextClause k = speaks
-
-module _ (h : Home) (speech : Speech) (a : Around) (v : Visible) (xs : List core.Parameter) (place : Place h a v xs) where
-  one_more : (b : Bool) (clause : Clause) (clauses : List Clause) → (b ≡ true → FormulaFits h speech xs (core_of_formula a v clause.formula))
-      → AllByRecursion (FormulaFits h speech xs) (map (core_of_formula a v) (map (λ clause. clause.formula) clauses))
-      → AllByRecursion (FormulaFits h speech xs) (map (core_of_formula a v) (map (λ clause. clause.formula) (cond b (clause ∷ clauses) clauses)))
-  one_more true clause clauses f rest = (f refl, rest)
-  one_more false clause clauses f rest = rest
-
-  clauses_fit : (stands : ClauseKind → Bool) (ensures others : Context) (clauses : List Clause) → SpeaksAt speech a stands ensures others → Clean (faults_of_clauses a v ensures others clauses)
-      → flat_map (λ (clause : Clause). shapes.faults_of_formula clause.formula) clauses ≡ [] → AllByRecursion (FormulaFits h speech xs) (map (core_of_formula a v) (formulas_at stands clauses))
-  clauses_fit stands ensures others [] speaks clean none = tt
-  clauses_fit stands ensures others (clause ∷ clauses) speaks clean none =
-      let rest : shapes.faults_of_formula clause.formula ++ flat_map (λ (clause : Clause). shapes.faults_of_formula clause.formula) clauses ≡ [] = none in
-      one_more (stands clause.kind) clause (filter (λ clause. stands clause.kind) clauses)
-      (λ k. formula_fits clause.formula h speech a v xs (if is_ensures clause.kind then ensures else others) place (speaks clause.kind k) clean.0 (no_first _ _ rest))
-      (clauses_fit stands ensures others clauses speaks clean.1 (no_second (shapes.faults_of_formula clause.formula) _ rest))
-
-  -- the formulas of a contract that stand before, or after
-  pub formulas_fit : (stands : ClauseKind → Bool) (ensures others : Context) (clauses : List Clause) → SpeaksAt speech a stands ensures others → Clean (faults_of_clauses a v ensures others clauses)
-      → flat_map (λ (clause : Clause). shapes.faults_of_formula clause.formula) clauses ≡ [] → FormulaFits h speech xs (core_of_formulas a v (formulas_at stands clauses))
-  formulas_fit stands ensures others clauses speaks clean none = joined_fits h speech xs _ (clauses_fit stands ensures others clauses speaks clean none)
+use Rattle.typing_laws.proofs.Programs.{ClassAt, class_at, method_place, class_place, method_says, run_says}
+use Rattle.typing_laws.proofs.Clauses.{speaks_before, speaks_after, formulas_fit}
 
 -- Members
 
@@ -110,6 +71,7 @@ member_fits p class c (member.Method m) at clean none =
           (speaks_before silent a (in_ensures (is_some m.result)) in_condition (no_condition silent a)) clean.0.1.1.0 shape,
       formulas_fit h (at_end (core_of_method (in_class p c) m)) a (parameters_in_scope m) (over [] (parameters_of m.params)) place stands_after (in_ensures (is_some m.result)) in_condition m.contract.clauses
           (speaks_after _ a (in_ensures (is_some m.result)) in_condition ends (no_condition _ a)) clean.0.1.1.0 shape,
+      method_says p class c m at (clean.0, none),
     )
 member_fits p class c (member.Run r) at clean none =
     let h : Home = formulas.in_class (core_of p) class in
@@ -118,6 +80,7 @@ member_fits p class c (member.Run r) at clean none =
     let shape = no_first (shapes.faults_of_contract r.contract) (shapes.faults_of_block r.body shapes.outside) none in (
       formulas_fit h silent a nothing_visible [] place stands_before in_condition in_condition r.contract.clauses (speaks_before silent a in_condition in_condition (no_condition silent a)) clean.0.0 shape,
       formulas_fit h silent a nothing_visible [] place stands_after in_condition in_condition r.contract.clauses (speaks_after silent a in_condition in_condition (no_condition silent a) (no_condition silent a)) clean.0.0 shape,
+      run_says p class c r at (clean.0, none),
     )
 
 members_fit : (p : Program) (class : Name) (c : Class) (ms : List Member) → ClassAt p class c → Clean (faults_of_members (in_class p c) ms) → flat_map shapes.faults_of_member ms ≡ []

@@ -5,11 +5,13 @@ mod Forms
 mod Purity
 mod Expressions
 mod Uses
-mod Statements
 mod Parts
 mod Made
 mod Joined
 mod Formulas
+mod Clauses
+mod Standing
+mod Statements
 mod Members
 mod Programs
 mod Contracts

@@ -33,7 +33,7 @@ use Rattle.pv_meaning.specs.Core.{Block}
 use Rattle.pv_meaning.specs.Core as core
 use Rattle.pv_meaning.specs.Members as members
 use Rattle.pv_meaning.specs.Members.{first_that, predicate_of}
-use Rattle.pv_picks.specs.Names.{parameters_of}
+use Rattle.pv_picks.specs.Names.{no_name, parameters_of}
 use Rattle.pv_picks.specs.Statements.{StmtPiece, Site, at, block_from, outermost, core_of_body, piece_in_stmt_kind, piece_of_stmt}
 use Rattle.pv_picks.specs.Programs.{core_of, in_method, parameters_in_scope, core_of_class, core_of_member, core_of_method, core_of_run, core_of_predicate}
 use Rattle.pv_picks.proofs.Clean.{Clean, clean_from, if_fails}
@@ -41,12 +41,14 @@ use Rattle.pv_picks.proofs.Mirrors.{first_run, class_found, core_mirrors, method
 use Rattle.pv_picks.proofs.Sound.{Sound}
 use Rattle.pv_picks.proofs.StmtLayers.{layer_of, kind_rolled, stmt_rolled, parts_in_pieces}
 use Rattle.pv_picks.proofs.Whole.{sound_class, sound_params, sound_result, result_declared}
-use Rattle.typed_programs.specs.Expressions.{Home}
+use Rattle.typed_programs.specs.Expressions.{Home, Speech}
 use Rattle.typed_programs.specs.Blocks.{types_of, gives_statement, gives, BlockFits, ends, home_of, over, MethodFits, ProgramFits}
 use Rattle.typing_laws.proofs.Scopes.{nothing_listed, params_listed}
 use Rattle.typing_laws.proofs.Places.{Declares, IsMethodThere, IsPredicateThere, Place}
 use Rattle.typing_laws.proofs.Expressions.{no_first, no_second}
-use Rattle.typing_laws.proofs.Statements.{Returns, statement_law}
+use Rattle.typing_laws.specs.Formulas.{midway, BlockSays}
+use Rattle.typing_laws.proofs.Standing.{At, InBlocks, outermost_blocks}
+use Rattle.typing_laws.proofs.Statements.{Returns, statement_law, says_fits}
 use Rattle.typing_laws.proofs.Members.{found_of, found_name, IsClean, classes_clean, IsCleanMethod, methods_clean, IsCleanRun, run_clean}
 
 -- What a program declares
@@ -116,18 +118,18 @@ declares p clean = record {
 
 -- Bodies
 
-body_law : (ss : List Stmt) (n : ℕ) (h : Home) (a : Around) (v : Visible) (xs : List core.Parameter) (spot : Spot) (site : Site) (around : shapes.Around) → Place h a v xs → ((there : Spot) → Returns h a there)
-    → Clean (faults_of_body (map (λ s. s.part) (map piece_of_stmt ss)) a v spot) → shapes.faults_of_block ss around ≡ [] → BlockFits h xs (block_from n (map piece_of_stmt ss) a v site)
-body_law [] n h a v xs spot site around place returns clean none = ends
-body_law (s ∷ ss) n h a v xs spot site around place returns clean none =
+body_law : (ss : List Stmt) (n : ℕ) (h : Home) (speech : Speech) (a : Around) (v : Visible) (xs head : List core.Parameter) (spot : Spot) (site : Site) (around : shapes.Around) → Place h a v xs → At h speech a v xs head spot site around
+    → ((there : Spot) → Returns h a there) → Clean (faults_of_body (map (λ s. s.part) (map piece_of_stmt ss)) a v spot) → shapes.faults_of_block ss around ≡ [] → BlockSays h speech head xs (block_from n (map piece_of_stmt ss) a v site)
+body_law [] n h speech a v xs head spot site around place stands returns clean none = tt
+body_law (s ∷ ss) n h speech a v xs head spot site around place stands returns clean none =
     let there : Spot = record spot { last = is_nothing (map (λ s. s.part) (map piece_of_stmt ss)) } in
-    statement_law s h a v xs there (at n site) around place (returns there) clean.0 (no_first (shapes.faults_of_stmt s around) (shapes.faults_of_block ss around) none) _
-    (λ ys further. body_law ss (n + 1) h a ((piece_of_stmt s).part.behind v) ys spot site around further returns clean.1 (no_second (shapes.faults_of_stmt s around) (shapes.faults_of_block ss around) none))
+    statement_law s h speech a v xs head there (at n site) around place stands (returns there) clean.0 (no_first (shapes.faults_of_stmt s around) (shapes.faults_of_block ss around) none) _
+    (λ ys further standing. body_law ss (n + 1) h speech a ((piece_of_stmt s).part.behind v) ys head spot site around further standing returns clean.1 (no_second (shapes.faults_of_stmt s around) (shapes.faults_of_block ss around) none))
 
-whole_body : (ss : List Stmt) (h : Home) (a : Around) (v : Visible) (xs : List core.Parameter) (method : Bool) → Place h a v xs → ((there : Spot) → Returns h a there) → Clean (faults_of_body (parts_of_block ss) a v (at_body method))
-    → shapes.faults_of_block ss shapes.outside ≡ [] → BlockFits h xs (core_of_body a v ss)
-whole_body ss h a v xs method place returns clean none =
-    body_law ss 0 h a v xs (at_body method) (outermost v) shapes.outside place returns
+whole_body : (ss : List Stmt) (h : Home) (speech : Speech) (a : Around) (v : Visible) (xs : List core.Parameter) (method : Bool) → Place h a v xs → InBlocks v xs no_name shapes.outside → ((method && true) ≡ true → speech.old ≡ true)
+    → ((there : Spot) → Returns h a there) → Clean (faults_of_body (parts_of_block ss) a v (at_body method)) → shapes.faults_of_block ss shapes.outside ≡ [] → BlockSays h speech xs xs (core_of_body a v ss)
+whole_body ss h speech a v xs method place blocks old returns clean none =
+    body_law ss 0 h speech a v xs xs (at_body method) (outermost v) shapes.outside place (record { old = old; blocks = blocks; loop = λ k. absurd cc }) returns
     (subst (λ (ps : List StmtPart). Clean (faults_of_body ps a v (at_body method))) (sym (parts_in_pieces ss)) clean) none
 
 -- a body whose last statement gives a value gives one
@@ -200,25 +202,31 @@ method_place p class c m answer at f =
 pub class_place : (p : Program) (class : Name) (c : Class) (answer : Option PvType) → ClassAt p class c → Place (record { program = core_of p; class = class; answer = answer }) (in_class p c) nothing_visible []
 class_place p class c answer at = record { sound = at.sound; declares = at.declares; class = sym at.name; listed = nothing_listed }
 
-method_fits : (p : Program) (class : Name) (c : Class) (m : Method) → ClassAt p class c → IsCleanMethod (in_class p c) m → MethodFits (core_of p) class (core_of_method (in_class p c) m)
-method_fits p class c m at f =
+pub method_says : (p : Program) (class : Name) (c : Class) (m : Method) → ClassAt p class c → IsCleanMethod (in_class p c) m → (let there : core.Method = core_of_method (in_class p c) m in
+    BlockSays (home_of (core_of p) class there) (midway there) (over [] there.parameters) (over [] there.parameters) there.body)
+method_says p class c m at f =
     let a : Around = in_method (in_class p c) m in
     let h : Home = home_of (core_of p) class (core_of_method (in_class p c) m) in
-    let place : Place h a (parameters_in_scope m) (over [] (parameters_of m.params)) = method_place p class c m h.answer at f in
-    record {
-      body = whole_body m.body h a (parameters_in_scope m) (over [] (parameters_of m.params)) true place
-          (λ there last type is. ap (λ o. Some (unwrap_or o Null)) is) f.0.1.1.1.0 (no_second (shapes.faults_of_contract m.contract) _ f.1);
-      result = λ type is. body_gives m.body 0 a (parameters_in_scope m) (outermost (parameters_in_scope m))
-          (not_false (is_some m.result) (ends_with_value m.body) (has_result m.result type is) (if_fails _ rule.NoReturn m.name.span f.0.1.1.1.1));
-    }
+    whole_body m.body h (midway (core_of_method (in_class p c) m)) a (parameters_in_scope m) (over [] (parameters_of m.params)) true (method_place p class c m h.answer at f)
+    (outermost_blocks a m.params (over [] (parameters_of m.params)) no_name shapes.outside f.0.1.0) (λ k. refl)
+    (λ there last type is. ap (λ o. Some (unwrap_or o Null)) is) f.0.1.1.1.0 (no_second (shapes.faults_of_contract m.contract) _ f.1)
+
+method_fits : (p : Program) (class : Name) (c : Class) (m : Method) → ClassAt p class c → IsCleanMethod (in_class p c) m → MethodFits (core_of p) class (core_of_method (in_class p c) m)
+method_fits p class c m at f = record {
+  body = says_fits _ _ _ _ _ (method_says p class c m at f);
+  result = λ type is. body_gives m.body 0 (in_method (in_class p c) m) (parameters_in_scope m) (outermost (parameters_in_scope m))
+      (not_false (is_some m.result) (ends_with_value m.body) (has_result m.result type is) (if_fails _ rule.NoReturn m.name.span f.0.1.1.1.1));
+}
+
+pub run_says : (p : Program) (class : Name) (c : Class) (r : RunMethod) → ClassAt p class c → IsCleanRun (in_class p c) r → (let there : core.Method = core_of_run (in_class p c) r in
+    BlockSays (home_of (core_of p) class there) (midway there) [] [] there.body)
+run_says p class c r at f =
+    let h : Home = home_of (core_of p) class (core_of_run (in_class p c) r) in
+    whole_body r.body h (midway (core_of_run (in_class p c) r)) (in_class p c) nothing_visible [] false (class_place p class c h.answer at) (outermost_blocks (in_class p c) [] [] no_name shapes.outside tt) (λ k. absurd cc)
+    (λ there last type is. absurd (no_type type is)) f.0.1 (no_second (shapes.faults_of_contract r.contract) _ f.1)
 
 run_fits : (p : Program) (class : Name) (c : Class) (r : RunMethod) → ClassAt p class c → IsCleanRun (in_class p c) r → MethodFits (core_of p) class (core_of_run (in_class p c) r)
-run_fits p class c r at f =
-    let h : Home = home_of (core_of p) class (core_of_run (in_class p c) r) in
-    record {
-      body = whole_body r.body h (in_class p c) nothing_visible [] false (class_place p class c h.answer at) (λ there last type is. absurd (no_type type is)) f.0.1 (no_second (shapes.faults_of_contract r.contract) _ f.1);
-      result = λ type is. absurd (no_type type is);
-    }
+run_fits p class c r at f = record { body = says_fits _ _ _ _ _ (run_says p class c r at f); result = λ type is. absurd (no_type type is) }
 
 -- Programs
 

@@ -1,14 +1,14 @@
--- Well typed formulas of a plain program, by the variables in scope: of contracts, of predicates and of locks.
-use Rattle.std.specs.Prelude.{◌≡◌, false, is_some, Option, Some, None, List, [], ◌∷◌}
+-- Well typed formulas of a plain program, by the variables in scope: of contracts, predicates, locks and statements.
+use Rattle.std.specs.Prelude.{◌≡◌, ◌⊎◌, false, is_some, Option, Some, None, List, [], ◌∷◌}
 use Rattle.std.specs.List.{AllByRecursion}
 use Rattle.pv_base.specs.declared.Name.{Name}
 use Rattle.pv_ast.specs.declared.PvType.TheVariants.{Int, Truth, Object}
 use Rattle.pv_meaning.specs.Core as core
-use Rattle.pv_meaning.specs.Core.{Program, Class, Member, Predicate, Method, Contract, Parameter, Cut, Formula, Items, Item}
+use Rattle.pv_meaning.specs.Core.{Program, Class, Member, Predicate, Method, Parameter, Shared, Cut, Formula, Items, Item, Statement, Block}
 use Rattle.pv_meaning.specs.Values.{array_of}
 use Rattle.pv_meaning.specs.Members.{class_named, field_type, predicate_named}
 use Rattle.typed_programs.specs.Expressions.{Home, Speech, silent, type_in, IsElement, Says, AllSay}
-use Rattle.typed_programs.specs.Blocks.{types_of, over}
+use Rattle.typed_programs.specs.Blocks.{types_of, inside, over, RightFits, StatementFits, home_of}
 
 -- a guard's term is a number, its condition a truth value
 abbrev pub CutFits : Home → Speech → List Parameter → Cut → Type 0
@@ -47,18 +47,60 @@ abbrev mutual
   ItemFits h speech xs (core.Guarded cuts i span) = AllByRecursion (CutFits h speech xs) cuts × ItemFits h speech xs i
   ItemFits h speech xs (core.Fixed e f span) = Says h speech xs e Int × FormulaFits h speech xs f
 
+-- What members keep: formulas at one position, and items at each
+
+abbrev pub SharedFits : Home → List Parameter → Shared → Type 0
+SharedFits h xs s =
+    FormulaFits h silent xs s.one.before × FormulaFits h silent xs s.one.after × ItemsFit h silent xs s.each_before × ItemsFit h silent xs s.each_after
+
+-- a statement assigns a variable that isn't in scope yet
+abbrev pub DeclaredBy : Home → List Parameter → Statement → Parameter → Type 0
+DeclaredBy h xs (core.Assign (core.ToVariable name) right span) x = (x.0 ≡ name) × (type_in xs name ≡ None) × RightFits h xs right x.1
+DeclaredBy h xs _ x = ⊥
+
+-- Well typed blocks whose formulas are well typed. The formulas of a method's own body may speak of the state that it began in.
+-- A message speaks of what is in scope at the head of the innermost body.
+abbrev mutual
+  pub StatementSays : Home → Speech → List Parameter → List Parameter → Statement → Type 0
+  StatementSays h speech head xs (core.Assign target right span) = Unit {0}
+  StatementSays h speech head xs (core.If e first second) = BlockSays h speech head xs first × BlockSays h speech head xs second
+  StatementSays h speech head xs (core.While assigned invariant e body span) = FormulaFits h speech xs invariant × BlockSays h speech head xs body
+  StatementSays h speech head xs (core.Members team body span) =
+      SharedFits h ((team.variable, Int) ∷ xs) team.shared × BlockSays (inside h) silent ((team.variable, Int) ∷ xs) ((team.variable, Int) ∷ xs) body
+  StatementSays h speech head xs (core.Meet barrier span) = SharedFits h xs barrier.shared
+  StatementSays h speech head xs (core.Act action class e span) = Unit {0}
+  StatementSays h speech head xs (core.Fold class name e args span) = Unit {0}
+  StatementSays h speech head xs (core.Unfold class name e args span) = Unit {0}
+  StatementSays h speech head xs (core.Assert f span) = FormulaFits h speech xs f
+  StatementSays h speech head xs (core.Send m span) = FormulaFits h silent head m.formula
+  StatementSays h speech head xs (core.Receive m span) = Unit {0}
+  StatementSays h speech head xs (core.Return e span) = Unit {0}
+
+  -- the first statement is well typed, or declares a variable
+  pub BlockSays : Home → Speech → List Parameter → List Parameter → Block → Type 0
+  BlockSays h speech head xs core.Stop = Unit {0}
+  BlockSays h speech head xs (core.Then s b) =
+      (StatementFits h xs s × StatementSays h speech head xs s × BlockSays h speech head xs b)
+      ⊎ ((x : Parameter) × DeclaredBy h xs s x × BlockSays h speech head (x ∷ xs) b)
+
 -- what a method's `ensures` may speak of: its result, and the state that it began in; that of a `run` neither
 abbrev pub at_end : Method → Speech
 at_end m = record { result = m.result; old = is_some m.name }
 
--- both formulas stand in the scope of the parameters
-abbrev pub ContractFits : Home → Method → Type 0
-ContractFits h m = FormulaFits h silent (over [] m.parameters) m.contract.before × FormulaFits h (at_end m) (over [] m.parameters) m.contract.after
+-- what the formulas of its body may speak of
+abbrev pub midway : Method → Speech
+midway m = record { result = None; old = is_some m.name }
+
+-- the contract and the body stand in the scope of the parameters
+abbrev pub MethodSays : Home → Method → Type 0
+MethodSays h m =
+    FormulaFits h silent (over [] m.parameters) m.contract.before × FormulaFits h (at_end m) (over [] m.parameters) m.contract.after
+    × BlockSays (home_of h.program h.class m) (midway m) (over [] m.parameters) (over [] m.parameters) m.body
 
 abbrev pub MemberFits : Home → Member → Type 0
 MemberFits h (core.IsField f) = Unit {0}
 MemberFits h (core.IsPredicate q) = FormulaFits h silent (over [] q.parameters) q.body
-MemberFits h (core.IsMethod m) = ContractFits h m
+MemberFits h (core.IsMethod m) = MethodSays h m
 
 abbrev pub InvariantFits : Home → Option Formula → Type 0
 InvariantFits h None = Unit {0}
@@ -68,7 +110,7 @@ InvariantFits h (Some f) = FormulaFits h silent [] f
 abbrev pub in_class : Program → Name → Home
 in_class p class = record { program = p; class = class; answer = None }
 
--- each lock invariant, predicate and contract of a method or `run` fits
+-- each lock invariant and predicate fits, and each contract and body of a method or `run`
 abbrev pub FormulasFit : Program → Type 0
 FormulasFit p = (class : Name) (c : Class) → class_named p class ≡ Some c
     → InvariantFits (in_class p class) c.lock_invariant × AllByRecursion (MemberFits (in_class p class)) c.members
