@@ -11,6 +11,7 @@ mod Joined
 mod Formulas
 mod Clauses
 mod Standing
+mod Messages
 mod Statements
 mod Members
 mod Programs

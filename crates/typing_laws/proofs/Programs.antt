@@ -26,7 +26,7 @@ use Rattle.pv_rules.specs.Scoping.{Visible, nothing_visible}
 use Rattle.pv_rules.specs.Parts as parts
 use Rattle.pv_rules.specs.Parts.{Around, members_of, type_of_field}
 use Rattle.pv_rules.specs.Shapes as shapes
-use Rattle.pv_rules.specs.Statements.{StmtPart, option_type, faults_of_body, parts_of_block, is_nothing}
+use Rattle.pv_rules.specs.Statements.{StmtPart, option_type, faults_of_body, parts_of_block, is_nothing, is_loop, no_messages}
 use Rattle.pv_rules.specs.Programs.{in_class, at_body, is_value_return, ends_with_value, faults_of_program}
 use Rattle.pv_rules.specs.WellFormed.{IsWellFormed}
 use Rattle.pv_meaning.specs.Core.{Block}
@@ -118,18 +118,19 @@ declares p clean = record {
 
 -- Bodies
 
-body_law : (ss : List Stmt) (n : ℕ) (h : Home) (speech : Speech) (a : Around) (v : Visible) (xs head : List core.Parameter) (spot : Spot) (site : Site) (around : shapes.Around) → Place h a v xs → At h speech a v xs head spot site around
-    → ((there : Spot) → Returns h a there) → Clean (faults_of_body (map (λ s. s.part) (map piece_of_stmt ss)) a v spot) → shapes.faults_of_block ss around ≡ [] → BlockSays h speech head xs (block_from n (map piece_of_stmt ss) a v site)
-body_law [] n h speech a v xs head spot site around place stands returns clean none = tt
-body_law (s ∷ ss) n h speech a v xs head spot site around place stands returns clean none =
+body_law : (ss : List Stmt) (n : ℕ) (h : Home) (speech : Speech) (a : Around) (v : Visible) (xs head : List core.Parameter) (spot : Spot) (site : Site) (around : shapes.Around) → (is_loop spot.surround ≡ true → ⊥) → Place h a v xs
+    → At h speech a v xs head spot site around → ((there : Spot) → Returns h a there) → Clean (faults_of_body (map (λ s. s.part) (map piece_of_stmt ss)) a v spot) → shapes.faults_of_block ss around ≡ []
+    → BlockSays h speech head xs (block_from n (map piece_of_stmt ss) a v site)
+body_law [] n h speech a v xs head spot site around no_loop place stands returns clean none = tt
+body_law (s ∷ ss) n h speech a v xs head spot site around no_loop place stands returns clean none =
     let there : Spot = record spot { last = is_nothing (map (λ s. s.part) (map piece_of_stmt ss)) } in
-    statement_law s h speech a v xs head there (at n site) around place stands (returns there) clean.0 (no_first (shapes.faults_of_stmt s around) (shapes.faults_of_block ss around) none) _
-    (λ ys further standing. body_law ss (n + 1) h speech a ((piece_of_stmt s).part.behind v) ys head spot site around further standing returns clean.1 (no_second (shapes.faults_of_stmt s around) (shapes.faults_of_block ss around) none))
+    statement_law s h speech a v xs head there (at n site) around place stands no_messages (λ k. absurd (no_loop k)) (returns there) clean.0 (no_first (shapes.faults_of_stmt s around) (shapes.faults_of_block ss around) none) _
+    (λ ys further standing. body_law ss (n + 1) h speech a ((piece_of_stmt s).part.behind v) ys head spot site around no_loop further standing returns clean.1 (no_second (shapes.faults_of_stmt s around) (shapes.faults_of_block ss around) none))
 
 whole_body : (ss : List Stmt) (h : Home) (speech : Speech) (a : Around) (v : Visible) (xs : List core.Parameter) (method : Bool) → Place h a v xs → InBlocks v xs no_name shapes.outside → ((method && true) ≡ true → speech.old ≡ true)
     → ((there : Spot) → Returns h a there) → Clean (faults_of_body (parts_of_block ss) a v (at_body method)) → shapes.faults_of_block ss shapes.outside ≡ [] → BlockSays h speech xs xs (core_of_body a v ss)
 whole_body ss h speech a v xs method place blocks old returns clean none =
-    body_law ss 0 h speech a v xs xs (at_body method) (outermost v) shapes.outside place (record { old = old; blocks = blocks; loop = λ k. absurd cc }) returns
+    body_law ss 0 h speech a v xs xs (at_body method) (outermost v) shapes.outside (λ k. cc) place (record { old = old; blocks = blocks; loop = λ k. absurd cc; told = λ k. absurd cc }) returns
     (subst (λ (ps : List StmtPart). Clean (faults_of_body ps a v (at_body method))) (sym (parts_in_pieces ss)) clean) none
 
 -- a body whose last statement gives a value gives one

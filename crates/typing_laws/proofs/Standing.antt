@@ -2,6 +2,7 @@
 use Rattle.std.proofs.Common.{◌≡◌, Bool, true, false, not, ◌&&◌, ◌||◌, Option, Some, None, is_some, List, [], ◌∷◌, refl, sym, ◌∙◌, ap, subst}
 use Rattle.std.proofs.lemmas.Bool.{and_parts, eq-eqb, eqb-true}
 use Rattle.std.specs.Prelude.{nat_eq, if◌then◌else◌}
+use Rattle.std.specs.List.{AllByRecursion}
 use Rattle.pv_base.specs.declared.Name.{Name}
 use Rattle.pv_ast.specs.declared.PvType.{PvType}
 use Rattle.pv_ast.specs.declared.PvType.TheVariants.{Int}
@@ -17,11 +18,13 @@ use Rattle.pv_rules.specs.Parts.{Around}
 use Rattle.pv_rules.specs.Shapes as shapes
 use Rattle.pv_rules.specs.Statements.{in_invariant, is_body, is_loop}
 use Rattle.pv_rules.specs.Programs.{with_params, with_param, faults_of_params}
+use Rattle.pv_meaning.specs.Core.{Message}
 use Rattle.pv_meaning.specs.Core as core
 use Rattle.pv_picks.specs.Statements.{Site}
 use Rattle.pv_picks.proofs.Clean.{Clean, if_fails}
 use Rattle.pv_picks.proofs.Agreeing.{Agree, or_else, declared_new, declared_more}
-use Rattle.typed_programs.specs.Expressions.{Home, Speech, type_in}
+use Rattle.typed_programs.specs.Expressions.{Home, Speech, silent, type_in}
+use Rattle.typing_laws.specs.Formulas.{FormulaFits}
 use Rattle.typing_laws.proofs.Places.{Place, Speaks}
 
 -- in a counted loop's body: the scope agrees with that at its head, where the variable of the loop is a number
@@ -36,13 +39,18 @@ pub record InLoop (h : Home) (a : Around) (v : Visible) (head : List core.Parame
 abbrev pub InBlocks : Visible → List core.Parameter → Name → shapes.Around → Type 0
 InBlocks v xs position around = (w : Name) → is_block_around v w ≡ true → (around.block ≡ Some position.0) × (type_in xs position ≡ Some Int)
 
-pub record Stands (h : Home) (speech : Speech) (a : Around) (v : Visible) (xs head : List core.Parameter) (method : Bool) (surround : Surround) (position : Name) (there : Visible) (around : shapes.Around) : Type 0 where
+-- each message speaks of what is in scope at the head
+abbrev pub AllFit : Home → List core.Parameter → List Message → Type 0
+AllFit h head ms = AllByRecursion (λ m. FormulaFits h silent head m.formula) ms
+
+pub record Stands (h : Home) (speech : Speech) (a : Around) (v : Visible) (xs head : List core.Parameter) (method : Bool) (surround : Surround) (position : Name) (there : Visible) (messages : List Message) (around : shapes.Around) : Type 0 where
   pub old : (method && is_body surround) ≡ true → speech.old ≡ true
   pub blocks : InBlocks v xs position around
   pub loop : is_loop surround ≡ true → InLoop h a v head there around
+  pub told : is_loop surround ≡ true → AllFit h head messages
 
 abbrev pub At : Home → Speech → Around → Visible → List core.Parameter → List core.Parameter → Spot → Site → shapes.Around → Type 0
-At h speech a v xs head spot site around = Stands h speech a v xs head spot.method spot.surround site.position site.head around
+At h speech a v xs head spot site around = Stands h speech a v xs head spot.method spot.surround site.position site.head site.messages around
 
 never : {A : Type 0} → false ≡ true → A
 never k = absurd cc

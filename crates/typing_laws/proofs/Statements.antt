@@ -26,7 +26,7 @@ use Rattle.pv_rules.specs.Parts.{Around, part_of}
 use Rattle.pv_rules.specs.Shapes as shapes
 use Rattle.pv_rules.specs.Shapes.{quantifiers_in, quantifiers_in_option, quantifiers_in_all, quantifiers_in_right, quantifiers_in_range, faults_of_formulas as shapes_of_formulas, faults_of_item_contract, faults_of_each, faults_in_stmt_kind as shapes_in_stmt_kind, faults_in_stmt, faults_of_stmt, faults_of_stmt_kind}
 use Rattle.pv_rules.specs.Statements as statements
-use Rattle.pv_rules.specs.Statements.{StmtPart, faults_of_statements, in_statement, in_condition, in_invariant, between_members, is_loop, in_branch, in_while, among_members, need_like, need_of_result, is_return_place, with_block}
+use Rattle.pv_rules.specs.Statements.{StmtPart, Messages, no_messages, messages_of_statements, faults_of_statements, in_statement, in_condition, in_invariant, between_members, is_loop, in_branch, in_while, among_members, need_like, need_of_result, is_return_place, with_block}
 use Rattle.pv_meaning.specs.Core.{Expression, Block, Statement}
 use Rattle.pv_meaning.specs.Core as core
 use Rattle.pv_picks.specs.Pieces.{piece_of, object_of, core_of_formula}
@@ -45,6 +45,8 @@ use Rattle.typing_laws.proofs.Places.{Place, Speaks, says_nothing, statement_str
 use Rattle.typing_laws.proofs.Standing.{InLoop, At, speaks_there, first_there, blocks_more}
 use Rattle.typing_laws.proofs.Formulas.{formula_fits, item_formula_fits}
 use Rattle.typing_laws.proofs.Clauses.{invariants_fit, shared_fits}
+use Rattle.typing_laws.proofs.Messages.{IsAmong, labels_of, between, message_fits, last_one, statements_grow, statements_label, statements_tell, all_sent, received_fits}
+use Rattle.std.specs.List.{AllByRecursion}
 use Rattle.typing_laws.proofs.Expressions.{no_first, no_second}
 use Rattle.typing_laws.proofs.Uses.{goes, object_goes, object_at, instance_at, call_goes, right_goes, first_goes, target_at}
 
@@ -79,6 +81,10 @@ says_fits core.Stop h speech head xs k = ends
 says_fits (core.Then s b) h speech head xs (inl k) = goes_first k.0 (says_fits b h speech head xs k.2)
 says_fits (core.Then s b) h speech head xs (inr k) = declared_fits s k.0 k.1 (says_fits b h speech head (k.0 ∷ xs) k.2)
 
+-- the labels that are received up to a statement are of messages that are sent in its loop
+abbrev pub Hears : Spot → Site → Messages → Type 0
+Hears spot site m = is_loop spot.surround ≡ true → AllByRecursion (IsAmong (labels_of site.messages)) m.received
+
 -- The laws of a statement: before a block that is well typed behind it, it is well typed
 
 abbrev pub Goes : Home → Speech → Around → Visible → Visible → List core.Parameter → List core.Parameter → Spot → Site → shapes.Around → Statement → Type 0
@@ -86,11 +92,11 @@ Goes h speech a v behind xs head spot site around s = (rest : Block) → ((ys : 
 
 abbrev pub KindLaw : StmtKindPiece → (shapes.Around → List ShapeFault) → Type 0
 KindLaw k shape = (h : Home) (speech : Speech) (a : Around) (v : Visible) (xs head : List core.Parameter) (spot : Spot) (span : Span) (site : Site) (around : shapes.Around) → Place h a v xs → At h speech a v xs head spot site around
-    → Returns h a spot → Clean (k.part.faults span a v spot) → shape around ≡ [] → Goes h speech a v (k.part.behind v) xs head spot site around (k.statement span a v site)
+    → (m : Messages) → Hears spot site (k.part.messages m) → Returns h a spot → Clean (k.part.faults span a v spot) → shape around ≡ [] → Goes h speech a v (k.part.behind v) xs head spot site around (k.statement span a v site)
 
 abbrev pub StmtLaw : StmtPiece → (shapes.Around → List ShapeFault) → Type 0
 StmtLaw s shape = (h : Home) (speech : Speech) (a : Around) (v : Visible) (xs head : List core.Parameter) (spot : Spot) (site : Site) (around : shapes.Around) → Place h a v xs → At h speech a v xs head spot site around
-    → Returns h a spot → Clean (s.part.faults a v spot) → shape around ≡ [] → Goes h speech a v (s.part.behind v) xs head spot site around (s.statement a v site)
+    → (m : Messages) → Hears spot site (s.part.messages m) → Returns h a spot → Clean (s.part.faults a v spot) → shape around ≡ [] → Goes h speech a v (s.part.behind v) xs head spot site around (s.statement a v site)
 
 abbrev Kinds : Type 0
 Kinds = (k : StmtKind) × KindLaw (piece_of_stmt_kind k) (faults_of_stmt_kind k)
@@ -115,12 +121,14 @@ still : {h : Home} {speech : Speech} {a : Around} {v : Visible} {xs head : List 
     → StatementFits h xs s → StatementSays h speech head xs s → Goes h speech a v v xs head spot site around s
 still {xs = xs} spot site place stands fits says rest behind = inl (fits, says, behind xs place stands)
 
-block_law : (ss : List Stmts) (n : ℕ) (h : Home) (speech : Speech) (a : Around) (v : Visible) (xs head : List core.Parameter) (spot : Spot) (site : Site) (around : shapes.Around) → Place h a v xs → At h speech a v xs head spot site around → Returns h a spot
+block_law : (ss : List Stmts) (n : ℕ) (h : Home) (speech : Speech) (a : Around) (v : Visible) (xs head : List core.Parameter) (spot : Spot) (site : Site) (around : shapes.Around) → Place h a v xs → At h speech a v xs head spot site around
+    → (m : Messages) → Hears spot site (messages_of_statements (parts_in (pieces ss)) m) → Returns h a spot
     → Clean (faults_of_statements (parts_in (pieces ss)) a v spot) → shapes_of ss around ≡ [] → BlockSays h speech head xs (block_from n (pieces ss) a v site)
-block_law [] n h speech a v xs head spot site around place stands returns clean none = tt
-block_law (s ∷ ss) n h speech a v xs head spot site around place stands returns clean none =
-    s.1 h speech a v xs head spot (at n site) around place stands returns clean.0 (no_first (faults_of_stmt s.0 around) (shapes_of ss around) none) _
-    (λ ys there further. block_law ss (n + 1) h speech a ((piece_of_stmt s.0).part.behind v) ys head spot site around there further returns clean.1 (no_second (faults_of_stmt s.0 around) (shapes_of ss around) none))
+block_law [] n h speech a v xs head spot site around place stands m hears returns clean none = tt
+block_law (s ∷ ss) n h speech a v xs head spot site around place stands m hears returns clean none =
+    let behind : Messages = (piece_of_stmt s.0).part.messages m in
+    s.1 h speech a v xs head spot (at n site) around place stands m (λ k. statements_grow (trees ss) (labels_of site.messages) behind (hears k)) returns clean.0 (no_first (faults_of_stmt s.0 around) (shapes_of ss around) none) _
+    (λ ys there further. block_law ss (n + 1) h speech a ((piece_of_stmt s.0).part.behind v) ys head spot site around there further behind hears returns clean.1 (no_second (faults_of_stmt s.0 around) (shapes_of ss around) none))
 
 -- Par blocks and counted loops
 
@@ -154,6 +162,10 @@ LayerLaw y = KindLaw (piece_in_stmt_kind (layer_of (without y))) (shapes_in_stmt
 outside : (h : Home) (a : Around) (v : Visible) (xs : List core.Parameter) → Place (inside h) a v xs → Place h a v xs
 outside h a v xs place = record { sound = place.sound; declares = place.declares; class = place.class; listed = place.listed }
 
+looped_for : (b : Bool) → (b || true) ≡ true
+looped_for true = refl
+looped_for false = refl
+
 -- what stands in members speaks of no old state
 not_old : {A : Type 0} (method : Bool) → (method && false) ≡ true → A
 not_old method k = absurd (let no = (and_parts method false k).1 in cc)
@@ -162,7 +174,7 @@ no_condition : (a : Around) → Speaks silent a in_condition
 no_condition a = says_nothing silent a in_condition refl refl
 
 for_law : (range : Range) (c : Contract) (body : List Stmts) → LayerLaw (StmtKind-F.For range c body)
-for_law range c body = λ h speech a v xs head spot span site around place stands returns clean none.
+for_law range c body = λ h speech a v xs head spot span site around place stands m hears returns clean none.
     let name : Name = range.name.name in
     let inner : List core.Parameter = (name, Int) ∷ xs in
     let further : List ShapeFault = shapes_of body (record around { loop = Some name.0 }) in
@@ -172,20 +184,31 @@ for_law range c body = λ h speech a v xs head spot span site around place stand
     let within : further ≡ [] = no_second (quantifiers_in_range range ++ contract) further none in
     let visible : is_visible (entered v) name ≡ false = if_fails (is_visible (entered v) name) rule.Shadows range.name.span clean.1.1.0 in
     let there : Place (inside h) a (inside_for v range) inner = for_place h a v xs range place clean.1.1.0 in
+    let here : InLoop (inside h) a (inside_for v range) inner (inside_for v range) (record around { loop = Some name.0 }) = record {
+      position = name;
+      loop = refl;
+      number = first_there xs name;
+      place = there;
+      agree = agree_head v LoopVariable name Int refl visible;
+    } in
     let standing : At (inside h) silent a (inside_for v range) inner inner (among_members surround.Loop spot) (in_for a (inside_for v range) (pieces body) (at 0 site)) (record around { loop = Some name.0 }) = record {
       old = not_old spot.method;
       blocks = blocks_more (entered v) xs site.position around LoopVariable name Int refl visible (not_listed (entered v) xs name place.listed visible) stands.blocks;
-      loop = λ k. record { position = name; loop = refl; number = first_there xs name; place = there; agree = agree_head v LoopVariable name Int refl visible };
+      loop = λ k. here;
+      told = λ k. statements_tell (trees body) (inside h) a (inside_for v range) inner (inside_for v range) (among_members surround.Loop spot) (record around { loop = Some name.0 }) here (looped_for spot.looped) clean.1.1.1.0.1 within;
     } in
+    let hears_inside : Hears (among_members surround.Loop spot) (in_for a (inside_for v range) (pieces body) (at 0 site)) (messages_of_statements (parts_in (pieces body)) no_messages) = λ k.
+    subst (λ names. AllByRecursion (IsAmong names) (messages_of_statements (parts_in (pieces body)) no_messages).received) (statements_label (trees body) a (inside_for v range))
+    (all_sent (messages_of_statements (parts_in (pieces body)) no_messages).sent (messages_of_statements (parts_in (pieces body)) no_messages).received clean.1.1.1.1.1.1) in
     let says = block_law body 0 (inside h) silent a (inside_for v range) inner inner (among_members surround.Loop spot) (in_for a (inside_for v range) (pieces body) (at 0 site)) _
-    there standing (never_last (inside h) a (among_members surround.Loop spot) refl) clean.1.1.1.0.1 within in
+    there standing no_messages hears_inside (never_last (inside h) a (among_members surround.Loop spot) refl) clean.1.1.1.0.1 within in
     still spot site place stands (opens (goes range.low h a v xs Int place clean.1.0.0 (no_first (quantifiers_in range.low) (quantifiers_in range.high) bounds))
     (goes range.high h a v xs Int place clean.1.0.1 (no_second (quantifiers_in range.low) (quantifiers_in range.high) bounds))
     (says_fits _ (inside h) silent inner inner says))
     (shared_fits h a (inside_for v range) inner name (outside h a (inside_for v range) inner there) (sym (there.listed name) ∙ first_there xs name) in_condition (no_condition a) c clean.1.1.1.0.0 items, says)
 
 par_law : (o : Option Word) (range : Range) (c : Contract) (body : List Stmts) → LayerLaw (StmtKind-F.Par o range c body)
-par_law o range c body = λ h speech a v xs head spot span site around place stands returns clean none.
+par_law o range c body = λ h speech a v xs head spot span site around place stands m hears returns clean none.
     let name : Name = range.name.name in
     let inner : List core.Parameter = (name, Int) ∷ xs in
     let further : List ShapeFault = shapes_of body (record around { block = Some name.0 }) in
@@ -198,9 +221,10 @@ par_law o range c body = λ h speech a v xs head spot span site around place sta
       old = not_old spot.method;
       blocks = λ w k. (refl, first_there xs name);
       loop = λ k. absurd cc;
+      told = λ k. absurd cc;
     } in
     let says = block_law body 0 (inside h) silent a (inside_par v o range) inner inner (among_members surround.Block spot) (in_par range (at 0 site)) _
-    there standing (never_last (inside h) a (among_members surround.Block spot) refl) clean.1.1.1.1.1 within in
+    there standing no_messages (λ k. absurd cc) (never_last (inside h) a (among_members surround.Block spot) refl) clean.1.1.1.1.1 within in
     still spot site place stands (opens (goes range.low h a v xs Int place clean.1.0.0 (no_first (quantifiers_in range.low) (quantifiers_in range.high) bounds))
     (goes range.high h a v xs Int place clean.1.0.1 (no_second (quantifiers_in range.low) (quantifiers_in range.high) bounds))
     (says_fits _ (inside h) silent inner inner says))
@@ -209,7 +233,7 @@ par_law o range c body = λ h speech a v xs head spot span site around place sta
 -- Simple statements
 
 local_law : (type : TypeWord) (w : Word) (value : Option Right) → LayerLaw (StmtKind-F.Local type w value)
-local_law type w value = λ h speech a v xs head spot span site around place stands returns clean none rest behind.
+local_law type w value = λ h speech a v xs head spot span site around place stands m hears returns clean none rest behind.
     let declared : is_declared_type a.program.classes type.kind ≡ true = unless_holds (is_declared_type a.program.classes type.kind) rule.UnknownName type.span clean.0 in
     let new : is_visible v w.name ≡ false = if_fails (is_visible v w.name) rule.Shadows w.span clean.1.0 in
     let unlisted = not_listed v xs w.name place.listed new in
@@ -223,11 +247,12 @@ local_law type w value = λ h speech a v xs head spot span site around place sta
       old = stands.old;
       blocks = blocks_more v xs site.position around Local w.name type.kind refl new unlisted stands.blocks;
       loop = λ k. let l = stands.loop k in record { position = l.position; loop = l.loop; number = l.number; place = l.place; agree = agree_local v site.head w.name type.kind new l.agree };
+      told = stands.told;
     } in
     inr ((w.name, type.kind), (refl, unlisted, first_goes value h a v xs type.kind place clean.1.1.0 none), behind ((w.name, type.kind) ∷ xs) there standing)
 
 assign_law : (to : Expr) (value : Right) → LayerLaw (StmtKind-F.Assign to value)
-assign_law to value = λ h speech a v xs head spot span site around place stands returns clean none.
+assign_law to value = λ h speech a v xs head spot span site around place stands m hears returns clean none.
     let t = target_at to h a v xs place clean.0 (no_first (quantifiers_in to) (quantifiers_in_right value) none) in
     still spot site place stands (assigns t.type t.target
     (right_goes value.kind h a v xs t.type value.span place
@@ -235,32 +260,33 @@ assign_law to value = λ h speech a v xs head spot span site around place stands
     (no_second (quantifiers_in to) (quantifiers_in_right value) none))) tt
 
 call_law : (target : Option Expr) (w : Word) (args : List Expr) → LayerLaw (StmtKind-F.Call target w args)
-call_law target w args = λ h speech a v xs head spot span site around place stands returns clean none.
+call_law target w args = λ h speech a v xs head spot span site around place stands m hears returns clean none.
     let c = call_goes target w args h a v xs place clean.1 (no_first (quantifiers_in_option target) (quantifiers_in_all args) none) (no_second (quantifiers_in_option target) (quantifiers_in_all args) none) in
     still spot site place stands (assigns c.0 tt c.1) tt
 
 if_law : (e : Expr) (first second : List Stmts) → LayerLaw (StmtKind-F.If e first second)
-if_law e first second = λ h speech a v xs head spot span site around place stands returns clean none.
+if_law e first second = λ h speech a v xs head spot span site around place stands m hears returns clean none.
     let before : quantifiers_in e ++ shapes_of first around ≡ [] = no_first (quantifiers_in e ++ shapes_of first around) (shapes_of second around) none in
-    let one = block_law first 0 h speech a v xs head (in_branch spot) (at 0 site) around place stands (never_last h a (in_branch spot) refl) clean.1.0 (no_second (quantifiers_in e) (shapes_of first around) before) in
-    let two = block_law second 0 h speech a v xs head (in_branch spot) (at 1 site) around place stands (never_last h a (in_branch spot) refl) clean.1.1 (no_second (quantifiers_in e ++ shapes_of first around) (shapes_of second around) none) in
+    let behind : Messages = messages_of_statements (parts_in (pieces first)) m in
+    let one = block_law first 0 h speech a v xs head (in_branch spot) (at 0 site) around place stands m (λ k. statements_grow (trees second) (labels_of site.messages) behind (hears k)) (never_last h a (in_branch spot) refl) clean.1.0 (no_second (quantifiers_in e) (shapes_of first around) before) in
+    let two = block_law second 0 h speech a v xs head (in_branch spot) (at 1 site) around place stands behind hears (never_last h a (in_branch spot) refl) clean.1.1 (no_second (quantifiers_in e ++ shapes_of first around) (shapes_of second around) none) in
     still spot site place stands (branches (goes e h a v xs Truth place clean.0 (no_first (quantifiers_in e) (shapes_of first around) before)) (says_fits _ h speech head xs one) (says_fits _ h speech head xs two)) (one, two)
 
 while_law : (es : List Expr) (e : Expr) (body : List Stmts) → LayerLaw (StmtKind-F.While es e body)
-while_law es e body = λ h speech a v xs head spot span site around place stands returns clean none.
+while_law es e body = λ h speech a v xs head spot span site around place stands m hears returns clean none.
     let before : List ShapeFault = shapes_of_formulas es ++ quantifiers_in e in
-    let says = block_law body 0 h speech a v xs head (in_while spot) (at 0 site) around place stands (never_last h a (in_while spot) refl) clean.1.1 (no_second before (shapes_of body around) none) in
+    let says = block_law body 0 h speech a v xs head (in_while spot) (at 0 site) around place stands m hears (never_last h a (in_while spot) refl) clean.1.1 (no_second before (shapes_of body around) none) in
     still spot site place stands (loops (goes e h a v xs Truth place clean.1.0 (no_second (shapes_of_formulas es) (quantifiers_in e) (no_first before (shapes_of body around) none))) (says_fits _ h speech head xs says))
     (invariants_fit h speech a v xs place (in_invariant spot) es (speaks_there speech a spot stands.old) clean.0 (no_first (shapes_of_formulas es) (quantifiers_in e) (no_first before (shapes_of body around) none)), says)
 
 fold_law : (target : Option Expr) (w : Word) (args : List Expr) → LayerLaw (StmtKind-F.Fold target w args)
-fold_law target w args = λ h speech a v xs head spot span site around place stands returns clean none.
+fold_law target w args = λ h speech a v xs head spot span site around place stands m hears returns clean none.
     let o = object_at target h silent a v xs in_statement place (statement_strict a) clean.0 (no_first (quantifiers_in_option target) (quantifiers_in_all args) none) in
     let i = instance_at target w args h silent a v xs in_statement o place (statement_strict a) clean.1 (no_second (quantifiers_in_option target) (quantifiers_in_all args) none) in
     still spot site place stands (folds (types_of i.predicate.parameters) (subst (λ class. IsOf h xs (object_of (option_map piece_of target) a v) (Object class)) (sym o.named) o.goes) i.arguments) tt
 
 unfold_law : (target : Option Expr) (w : Word) (args : List Expr) → LayerLaw (StmtKind-F.Unfold target w args)
-unfold_law target w args = λ h speech a v xs head spot span site around place stands returns clean none.
+unfold_law target w args = λ h speech a v xs head spot span site around place stands m hears returns clean none.
     let o = object_at target h silent a v xs in_statement place (statement_strict a) clean.0 (no_first (quantifiers_in_option target) (quantifiers_in_all args) none) in
     let i = instance_at target w args h silent a v xs in_statement o place (statement_strict a) clean.1 (no_second (quantifiers_in_option target) (quantifiers_in_all args) none) in
     still spot site place stands (unfolds (types_of i.predicate.parameters) (subst (λ class. IsOf h xs (object_of (option_map piece_of target) a v) (Object class)) (sym o.named) o.goes) i.arguments) tt
@@ -271,45 +297,38 @@ returned_type a spot e None is k = absurd (let never = (and_parts (spot.last && 
 returned_type a spot e (Some type) is k = (type, is, (and_parts spot.last spot.method (and_parts (spot.last && spot.method) true k).0).0)
 
 return_law : (value : Option Expr) → LayerLaw (StmtKind-F.Return value)
-return_law None = λ h speech a v xs head spot span site around place stands returns clean none. still spot site place stands leaves tt
-return_law (Some e) = λ h speech a v xs head spot span site around place stands returns clean none.
+return_law None = λ h speech a v xs head spot span site around place stands m hears returns clean none. still spot site place stands leaves tt
+return_law (Some e) = λ h speech a v xs head spot span site around place stands m hears returns clean none.
     let r = returned_type a spot e a.result refl (unless_holds (is_return_place a spot (Some e)) rule.ReturnPlace span clean.0) in
     still spot site place stands (answers r.0 (returns r.2 r.0 r.1)
     (goes e h a v xs r.0 place (subst (λ (o : Option PvType). Clean (statements.faults_of_expression a v (need_of_result o) e)) r.1 clean.1) none)) tt
 
 -- Barriers and messages
 
-between : (a : Around) → Speaks silent a between_members
-between a = says_nothing silent a between_members refl refl
-
 barrier_items : (o : Option ℕ) (c : Contract) (n : ℕ) → o ≡ Some n → shapes.faults_of_barrier o c ≡ [] → faults_of_item_contract n c ≡ []
 barrier_items None c n is none = absurd cc
 barrier_items (Some m) c n is none = let same : m ≡ n = cc in subst (λ m. faults_of_item_contract m c ≡ []) same none
 
 barrier_law : (w : Word) (c : Contract) → LayerLaw (StmtKind-F.Barrier w c)
-barrier_law w c = λ h speech a v xs head spot span site around place stands returns clean none.
+barrier_law w c = λ h speech a v xs head spot span site around place stands m hears returns clean none.
     let b = stands.blocks w.name (unless_holds (is_block_around v w.name) rule.UnknownName w.span clean.0.0) in
     still spot site place stands meets (shared_fits h a v xs site.position place (sym (place.listed site.position) ∙ b.1) between_members (between a) c clean.1 (barrier_items around.block c site.position.0 b.0 none))
-
-message_items : (o : Option ℕ) (e : Expr) (n : ℕ) → o ≡ Some n → shapes.faults_of_message o e ≡ [] → shapes.faults_of_items n e ≡ []
-message_items None e n is none = absurd cc
-message_items (Some m) e n is none = let same : m ≡ n = cc in subst (λ m. shapes.faults_of_items m e ≡ []) same none
 
 loop_from : (a b : Bool) → (not a || b) ≡ false → a ≡ true
 loop_from true b k = refl
 loop_from false b k = absurd cc
 
--- a message at the head of the body
-message_fits : (e : Expr) (h : Home) (a : Around) (v : Visible) (head : List core.Parameter) (there : Visible) (around : shapes.Around) → InLoop h a v head there around → Clean ((part_of e).faults a v between_members (Exactly Truth))
-    → shapes.faults_of_message around.loop e ≡ [] → FormulaFits h silent head (core_of_formula a there e)
-message_fits e h a v head there around l clean none =
-    (item_formula_fits e l.position h silent a there head between_members (sym (l.place.listed l.position) ∙ l.number) l.place (between a)
-    (at_head e a v there between_members (Exactly Truth) l.agree refl clean).1 (message_items around.loop e l.position.0 l.loop none)).0
+loop_place : (spot : Spot) (span : Span) → Clean (statements.faults_of_message_place spot span) → is_loop spot.surround ≡ true
+loop_place spot span clean = loop_from (is_loop spot.surround) spot.repeated (if_fails (not (is_loop spot.surround) || spot.repeated) rule.MessagePlace span clean)
 
 send_law : (w : Word) (n : ℕ) (e : Expr) → LayerLaw (StmtKind-F.Send w n e)
-send_law w n e = λ h speech a v xs head spot span site around place stands returns clean none.
-    let looped : is_loop spot.surround ≡ true = loop_from (is_loop spot.surround) spot.repeated (if_fails (not (is_loop spot.surround) || spot.repeated) rule.MessagePlace span clean.0) in
-    still spot site place stands sends (message_fits e h a v head site.head around (stands.loop looped) clean.1.1 none)
+send_law w n e = λ h speech a v xs head spot span site around place stands m hears returns clean none.
+    still spot site place stands sends (message_fits e h a v head site.head around (stands.loop (loop_place spot span clean.0)) clean.1.1 none)
+
+receive_law : (w : Word) → LayerLaw (StmtKind-F.Recv w)
+receive_law w = λ h speech a v xs head spot span site around place stands m hears returns clean none.
+    let looped : is_loop spot.surround ≡ true = loop_place spot span clean.0 in
+    still spot site place stands receives (received_fits h head site.messages w.name (stands.told looped) (last_one (labels_of site.messages) m.received w (hears looped)))
 
 -- The induction
 
@@ -322,17 +341,17 @@ layer_law (StmtKind-F.While es e body) = while_law es e body
 layer_law (StmtKind-F.For range c body) = for_law range c body
 layer_law (StmtKind-F.Par o range c body) = par_law o range c body
 layer_law (StmtKind-F.Barrier w c) = barrier_law w c
-layer_law (StmtKind-F.Fork e) = λ h speech a v xs head spot span site around place stands returns clean none. still spot site place stands (acts (object_goes e h a v xs place clean.1.0 none)) tt
-layer_law (StmtKind-F.Join e) = λ h speech a v xs head spot span site around place stands returns clean none. still spot site place stands (acts (object_goes e h a v xs place clean.1.0 none)) tt
-layer_law (StmtKind-F.Lock e) = λ h speech a v xs head spot span site around place stands returns clean none. still spot site place stands (acts (object_goes e h a v xs place clean.1.0 none)) tt
-layer_law (StmtKind-F.Unlock e) = λ h speech a v xs head spot span site around place stands returns clean none. still spot site place stands (acts (object_goes e h a v xs place clean.1.0 none)) tt
-layer_law (StmtKind-F.Commit e) = λ h speech a v xs head spot span site around place stands returns clean none. still spot site place stands (acts (object_goes e h a v xs place clean.1.0 none)) tt
+layer_law (StmtKind-F.Fork e) = λ h speech a v xs head spot span site around place stands m hears returns clean none. still spot site place stands (acts (object_goes e h a v xs place clean.1.0 none)) tt
+layer_law (StmtKind-F.Join e) = λ h speech a v xs head spot span site around place stands m hears returns clean none. still spot site place stands (acts (object_goes e h a v xs place clean.1.0 none)) tt
+layer_law (StmtKind-F.Lock e) = λ h speech a v xs head spot span site around place stands m hears returns clean none. still spot site place stands (acts (object_goes e h a v xs place clean.1.0 none)) tt
+layer_law (StmtKind-F.Unlock e) = λ h speech a v xs head spot span site around place stands m hears returns clean none. still spot site place stands (acts (object_goes e h a v xs place clean.1.0 none)) tt
+layer_law (StmtKind-F.Commit e) = λ h speech a v xs head spot span site around place stands m hears returns clean none. still spot site place stands (acts (object_goes e h a v xs place clean.1.0 none)) tt
 layer_law (StmtKind-F.Fold target w args) = fold_law target w args
 layer_law (StmtKind-F.Unfold target w args) = unfold_law target w args
-layer_law (StmtKind-F.Assert e) = λ h speech a v xs head spot span site around place stands returns clean none.
+layer_law (StmtKind-F.Assert e) = λ h speech a v xs head spot span site around place stands m hears returns clean none.
     still spot site place stands asserts (formula_fits e h speech a v xs (in_invariant spot) place (speaks_there speech a spot stands.old) clean none)
 layer_law (StmtKind-F.Send w n e) = send_law w n e
-layer_law (StmtKind-F.Recv w) = λ h speech a v xs head spot span site around place stands returns clean none. still spot site place stands receives tt
+layer_law (StmtKind-F.Recv w) = receive_law w
 layer_law (StmtKind-F.Return value) = return_law value
 
 kind_step : (x : StmtKind-F StmtKind Stmt) (y : StmtKind-F Kinds Stmts) → without y ≡ x → KindLaw (piece_of_stmt_kind (roll-StmtKind x)) (faults_of_stmt_kind (roll-StmtKind x))
@@ -342,7 +361,7 @@ kind_step x y is =
     (subst (λ (z : StmtKind-F StmtKind Stmt). KindLaw (piece_in_stmt_kind (layer_of z)) (shapes_in_stmt_kind (shape_layer z))) is (layer_law y)))
 
 stmt_law : (span : Span) (k : StmtKindPiece) (shape : shapes.Around → List ShapeFault) → KindLaw k shape → StmtLaw (piece_in_stmt (record { span = span; kind = k })) shape
-stmt_law span k shape law = λ h speech a v xs head spot site around place stands returns clean none. law h speech a v xs head spot span site around place stands returns clean none
+stmt_law span k shape law = λ h speech a v xs head spot site around place stands m hears returns clean none. law h speech a v xs head spot span site around place stands m hears returns clean none
 
 stmt_step : (x : Stmt-F StmtKind Stmt) (y : Stmt-F Kinds Stmts) → map-Stmt Kinds Stmts StmtKind Stmt (λ e. e.0) (λ e. e.0) y ≡ x → StmtLaw (piece_of_stmt (roll-Stmt x)) (faults_of_stmt (roll-Stmt x))
 stmt_step x y is =

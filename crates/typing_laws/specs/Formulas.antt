@@ -73,7 +73,7 @@ abbrev mutual
   StatementSays h speech head xs (core.Unfold class name e args span) = Unit {0}
   StatementSays h speech head xs (core.Assert f span) = FormulaFits h speech xs f
   StatementSays h speech head xs (core.Send m span) = FormulaFits h silent head m.formula
-  StatementSays h speech head xs (core.Receive m span) = Unit {0}
+  StatementSays h speech head xs (core.Receive m span) = FormulaFits h silent head m.formula
   StatementSays h speech head xs (core.Return e span) = Unit {0}
 
   -- the first statement is well typed, or declares a variable

@@ -16,7 +16,7 @@ pub fn well_formed_programs_are_typed()
     ensures { (p : Program) → IsWellFormed p → ProgramFits (core_of p) }
 {}
 
-/// The contracts, predicates and lock invariants of what a well formed program becomes are well typed formulas.
+/// Each formula of what a well formed program becomes is well typed: in contracts, predicates, lock invariants and statements.
 pub fn formulas_of_well_formed_programs_are_typed()
     ensures { (p : Program) → IsWellFormed p → FormulasFit (core_of p) }
 {}
