@@ -1,34 +1,24 @@
 -- Contracts without a fault become well typed ones, and so do the other formulas of classes.
-use Rattle.std.proofs.Common.{◌≡◌, Bool, true, false, Option, Some, None, is_some, option_map, List, [], ◌∷◌, ◌++◌, map, cond, refl, sym, ◌∙◌, ap, subst}
-use Rattle.std.specs.Prelude.{filter, if◌then◌else◌}
+use Rattle.std.proofs.Common.{◌≡◌, Option, Some, None, is_some, option_map, List, [], ◌∷◌, map, refl, sym, ◌∙◌, subst}
 use Rattle.std.specs.List.{AllByRecursion, flat_map}
 use Rattle.pv_base.specs.declared.Name.{Name}
-use Rattle.pv_ast.specs.declared.PvType.{PvType}
 use Rattle.pv_ast.specs.declared.Expr.{Expr}
-use Rattle.pv_ast.specs.declared.Clause.{Clause}
-use Rattle.pv_ast.specs.declared.ClauseKind.{ClauseKind}
-use Rattle.pv_ast.specs.declared.ClauseKind.TheVariants.{Requires, Ensures, Context as ContextClause}
-use Rattle.pv_ast.specs.declared.Predicate.{Predicate}
-use Rattle.pv_ast.specs.declared.Method.{Method}
-use Rattle.pv_ast.specs.declared.RunMethod.{RunMethod}
 use Rattle.pv_ast.specs.declared.Member.{Member}
 use Rattle.pv_ast.specs.declared.Member.TheVariants as member
 use Rattle.pv_ast.specs.declared.Class.{Class}
 use Rattle.pv_ast.specs.declared.Program.{Program}
-use Rattle.pv_rules.specs.declared.standing.Context.{Context}
 use Rattle.pv_rules.specs.Lookup as rules
-use Rattle.pv_rules.specs.Scoping.{Visible, nothing_visible}
+use Rattle.pv_rules.specs.Scoping.{nothing_visible}
 use Rattle.pv_rules.specs.Parts.{Around}
 use Rattle.pv_rules.specs.Shapes as shapes
-use Rattle.pv_rules.specs.Statements.{in_condition, is_ensures, faults_of_clauses}
+use Rattle.pv_rules.specs.Statements.{in_condition}
 use Rattle.pv_rules.specs.Programs.{in_class, in_ensures, with_params, faults_of_members, faults_of_lock_invariant}
 use Rattle.pv_rules.specs.WellFormed.{IsWellFormed}
 use Rattle.pv_meaning.specs.Core.{Formula}
 use Rattle.pv_meaning.specs.Core as core
-use Rattle.pv_meaning.specs.Members.{class_named}
 use Rattle.pv_picks.specs.Names.{parameters_of}
 use Rattle.pv_picks.specs.Pieces.{core_of_formula}
-use Rattle.pv_picks.specs.Statements.{joined, stands_before, stands_after, formulas_at, core_of_formulas, core_of_contract}
+use Rattle.pv_picks.specs.Statements.{stands_before, stands_after}
 use Rattle.pv_picks.specs.Programs.{core_of, core_of_class, core_of_member, core_of_method, in_method, parameters_in_scope}
 use Rattle.pv_picks.proofs.Clean.{Clean}
 use Rattle.pv_picks.proofs.Mirrors.{class_found}
@@ -38,7 +28,7 @@ use Rattle.typed_programs.specs.Blocks.{over}
 use Rattle.typing_laws.specs.Formulas as formulas
 use Rattle.typing_laws.specs.Formulas.{FormulaFits, at_end, MemberFits, InvariantFits, FormulasFit}
 use Rattle.typing_laws.proofs.Scopes.{nothing_listed, params_listed}
-use Rattle.typing_laws.proofs.Places.{Place, Speaks, says_nothing}
+use Rattle.typing_laws.proofs.Places.{Speaks, says_nothing}
 use Rattle.typing_laws.proofs.Expressions.{no_first, no_second}
 use Rattle.typing_laws.proofs.Formulas.{formula_fits}
 use Rattle.typing_laws.proofs.Programs.{ClassAt, class_at, method_place, class_place, method_says, run_says}

@@ -1,6 +1,6 @@
 -- What an expression of a statement becomes goes where its type is wanted.
 use Rattle.std.proofs.Common.{◌≡◌, ℕ, Bool, true, false, not, ◌||◌, Option, Some, None, option_map, List, [], ◌∷◌, ◌++◌, refl, sym, ◌∙◌, ap, subst}
-use Rattle.std.proofs.lemmas.Bool.{and_parts, both_ways, or_left, not_from_false}
+use Rattle.std.proofs.lemmas.Bool.{and_parts}
 use Rattle.std.specs.Prelude.{if◌then◌else◌}
 use Rattle.pv_base.specs.declared.Name.{Name}
 use Rattle.pv_base.specs.declared.Span.{Span}
@@ -14,7 +14,6 @@ use Rattle.pv_ast.specs.declared.ExprKind.{ExprKind, ExprKind-F, roll-ExprKind, 
 use Rattle.pv_ast.specs.declared.Each.{Each, Each-F, roll-Each}
 use Rattle.pv_rules.specs.declared.fault.Rule.TheVariants as rule
 use Rattle.pv_rules.specs.declared.fault.ShapeFault.{ShapeFault}
-use Rattle.pv_rules.specs.declared.fault.ShapeFault.TheVariants.{QuantifierShape}
 use Rattle.pv_rules.specs.declared.scope.Declared.{Declared}
 use Rattle.pv_rules.specs.declared.standing.Context.{Context}
 use Rattle.pv_rules.specs.declared.standing.Need.{Need}
@@ -25,7 +24,7 @@ use Rattle.pv_rules.specs.declared.standing.Typing.TheVariants.{Unsettled, Untyp
 use Rattle.pv_rules.specs.Lookup.{class_named, field_named}
 use Rattle.pv_rules.specs.Scoping.{Visible, variable_named}
 use Rattle.pv_rules.specs.Typing as typing
-use Rattle.pv_rules.specs.Parts.{Around, seen_of_name, type_of_field, type_of_param, typing_in, names_local, typing_of_field_in, is_array_length, holder_of, holder_of_typing, class_of, members_of, need_of_target, not_pure}
+use Rattle.pv_rules.specs.Parts.{Around, seen_of_name, type_of_field, type_of_param, typing_in, names_local, typing_of_field_in, is_array_length, holder_of, holder_of_typing, class_of, members_of, need_of_target}
 use Rattle.pv_meaning.specs.Core.{Expression}
 use Rattle.pv_meaning.specs.Core as core
 use Rattle.pv_picks.specs.Operations.{is_literal, plainly, compared, operation, negation}

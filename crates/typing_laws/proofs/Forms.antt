@@ -14,7 +14,7 @@ use Rattle.pv_rules.specs.declared.scope.Declared.{Declared}
 use Rattle.pv_rules.specs.declared.standing.Seen.{Seen}
 use Rattle.pv_rules.specs.declared.standing.Typing.TheVariants.{Typed}
 use Rattle.pv_rules.specs.Scoping.{Visible, variable_named}
-use Rattle.pv_rules.specs.Items.{Facts, Form, variable, element, guard, fixing, other, is_variable, is_guard, is_fixing, is_term, literal_of, raised, lowered, element_at, form_if, form_of_operator, facts_of_operator, facts_of_variable, is_variable_and_term}
+use Rattle.pv_rules.specs.Items.{Facts, Form, element, guard, fixing, other, is_variable, is_fixing, literal_of, raised, lowered, element_at, form_if, facts_of_variable, is_variable_and_term}
 use Rattle.pv_rules.specs.Parts.{Around, seen_of_name}
 use Rattle.pv_meaning.specs.Core.{Expression}
 use Rattle.pv_meaning.specs.Core as core

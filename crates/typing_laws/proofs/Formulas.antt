@@ -1,19 +1,16 @@
 -- A formula without a fault becomes a well typed one, wherever it stands.
-use Rattle.std.proofs.Common.{◌≡◌, ℕ, Bool, true, false, not, ◌&&◌, ◌||◌, Option, Some, None, is_some, option_map, List, [], ◌∷◌, ◌++◌, map, refl, sym, ◌∙◌, ap, subst, inl, inr}
-use Rattle.std.proofs.lemmas.Bool.{and_parts, and_from, or_parts, both_ways, eq-eqb}
+use Rattle.std.proofs.Common.{◌≡◌, ℕ, Bool, true, false, Option, Some, None, is_some, option_map, List, [], ◌∷◌, ◌++◌, map, refl, sym, ◌∙◌, ap, subst, inr}
+use Rattle.std.proofs.lemmas.Bool.{and_from, eq-eqb}
 use Rattle.std.specs.Prelude.{◌⊎◌, nat_eq, if◌then◌else◌}
 use Rattle.std.specs.List.{flat_map}
 use Rattle.pv_base.specs.declared.Name.{Name}
 use Rattle.pv_base.specs.declared.Span.{Span}
 use Rattle.pv_ast.specs.declared.Word.{Word}
-use Rattle.pv_ast.specs.declared.Operator.{Operator}
-use Rattle.pv_ast.specs.declared.Operator.TheVariants as op
 use Rattle.pv_ast.specs.declared.Token.{Token}
 use Rattle.pv_ast.specs.declared.Token.TheVariants as token
-use Rattle.pv_ast.specs.declared.PvType.{PvType}
 use Rattle.pv_ast.specs.declared.PvType.TheVariants.{Int, Truth, Object}
 use Rattle.pv_ast.specs.declared.Expr.{Expr, Expr-F, ind-Expr, roll-Expr, map-Expr}
-use Rattle.pv_ast.specs.declared.ExprKind.{ExprKind, ExprKind-F, roll-ExprKind, map-ExprKind}
+use Rattle.pv_ast.specs.declared.ExprKind.{ExprKind, ExprKind-F, roll-ExprKind}
 use Rattle.pv_ast.specs.declared.Each.{Each, Each-F, roll-Each, map-Each}
 use Rattle.pv_rules.specs.declared.fault.Rule.TheVariants as rule
 use Rattle.pv_rules.specs.declared.fault.ShapeFault.{ShapeFault}
@@ -22,10 +19,8 @@ use Rattle.pv_rules.specs.declared.standing.Context.{Context}
 use Rattle.pv_rules.specs.declared.standing.Need.TheVariants.{Anything, Exactly, AnObject, AnArray}
 use Rattle.pv_rules.specs.declared.standing.Seen.{Seen}
 use Rattle.pv_rules.specs.declared.standing.Typing.{Typing}
-use Rattle.pv_rules.specs.declared.standing.Typing.TheVariants.{Typed}
 use Rattle.pv_rules.specs.Scoping.{Visible, is_visible}
-use Rattle.pv_rules.specs.Items as items
-use Rattle.pv_rules.specs.Items.{Facts, Form, Use, Whole, star_body, truth_body, clause, Shape, or_else, item_of_pure, item_of_use, item_of_location, item_of_token, item_of_operator, item_of_implication, guarded_item, fixed, position, is_empty, fault_unless, fault_at, is_part, is_guard, is_fixing, is_variable, has_variable_and_term, is_variable_and_term, is_term, variable, literal, shift, element, guard, fixing, other, body_of}
+use Rattle.pv_rules.specs.Items.{Facts, Form, clause, Shape, item_of_location, item_of_token, variable, literal, shift, element, guard, fixing, other, body_of}
 use Rattle.pv_rules.specs.Shapes.{quantifiers_in, quantifiers_in_option, quantifiers_in_all}
 use Rattle.pv_rules.specs.Shapes as shapes
 use Rattle.pv_rules.specs.Typing as typing
@@ -35,7 +30,7 @@ use Rattle.pv_rules.specs.Statements.{part_of_option, parts_of, faults_of_formul
 use Rattle.pv_meaning.specs.Core.{Expression, Formula, Items, Item}
 use Rattle.pv_meaning.specs.Core as core
 use Rattle.pv_picks.specs.Names.{settled, class_at}
-use Rattle.pv_picks.specs.Pieces.{Piece, KindPiece, EachPiece, Layer, piece_in_kind, piece_in_each, piece_in_expr, piece_of, piece_of_kind, piece_of_each, conjunct, alone, object_of, class_of_object, arguments_of, part_option, form_for, item_in_kind, type_of_piece, units_of, core_of_formula, core_of_items}
+use Rattle.pv_picks.specs.Pieces.{Piece, KindPiece, EachPiece, piece_in_each, piece_in_expr, piece_of, piece_of_kind, piece_of_each, conjunct, alone, object_of, class_of_object, arguments_of, part_option, form_for, item_in_kind, units_of, core_of_formula, core_of_items}
 use Rattle.pv_picks.specs.Statements.{pieces_of}
 use Rattle.pv_picks.proofs.Clean.{Clean, unless_holds, if_fails}
 use Rattle.pv_picks.proofs.Layers.{layer_of, each_layer_of, kind_at_roll, each_at_roll, expr_at_roll, part_in_piece, shape_in_piece}
@@ -44,15 +39,14 @@ use Rattle.pv_picks.proofs.Uses.{parts_same, target_same}
 use Rattle.typed_programs.specs.Expressions.{Home, Speech, type_in, Says}
 use Rattle.typing_laws.specs.Formulas.{FormulaFits, ItemsFit, ItemFits}
 use Rattle.typing_laws.proofs.Types.{itself, object_wanted}
-use Rattle.typing_laws.proofs.Scopes.{type_of, not_listed, variable_listed}
+use Rattle.typing_laws.proofs.Scopes.{not_listed, variable_listed}
 use Rattle.typing_laws.proofs.Places.{Place, Speaks, Strict, speaks_purely, speaks_quantified}
 use Rattle.typing_laws.proofs.Forms.{IsPosition, is_element, shown, variable_pure}
-use Rattle.typing_laws.proofs.Purity as purity
-use Rattle.typing_laws.proofs.Purity.{meets_at, other_int, other_array, other_object, other_target, purely, typed, located, guards, fixes, solid_pure, numbers_pure, sides_pure, position_first, position_second}
-use Rattle.typing_laws.proofs.Expressions.{Fits, expression_law, no_first, no_second}
+use Rattle.typing_laws.proofs.Purity.{meets_at, other_int, other_array, other_object, other_target, purely, typed, located, solid_pure}
+use Rattle.typing_laws.proofs.Expressions.{expression_law, no_first, no_second}
 use Rattle.typing_laws.proofs.Uses.{object_at, instance_at, typed_place}
-use Rattle.typing_laws.proofs.Parts.{cuts_fit, term_fits, permission_fits, shifted_fits, formula_if, item_if, together_fit}
-use Rattle.typing_laws.proofs.Made.{Ready, IsRight, is_pure, no_fault, one_item, all_items, Made, KindLaw, EachLaw, ExprLaw, PieceMade, Kinds, Eaches, Exprs, without, LayerLaw, ready_at, made_at, number_goes, either, none_unless, is_item, pure_or, no_item, right_of, item_or, PureItem, PartFault, fact_made, fact_true, operation_made, whole_made}
+use Rattle.typing_laws.proofs.Parts.{permission_fits, shifted_fits}
+use Rattle.typing_laws.proofs.Made.{Ready, no_fault, all_items, Made, KindLaw, EachLaw, ExprLaw, Kinds, Eaches, Exprs, without, LayerLaw, made_at, number_goes, no_item, right_of, item_or, PureItem, PartFault, fact_made, whole_made}
 use Rattle.typing_laws.proofs.Joined.{operator_made}
 
 -- Permissions, threads and locks

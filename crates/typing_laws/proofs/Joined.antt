@@ -1,58 +1,35 @@
 -- Operators between formulas.
-use Rattle.std.proofs.Common.{◌≡◌, ℕ, Bool, true, false, not, ◌&&◌, ◌||◌, Option, Some, None, is_some, option_map, List, [], ◌∷◌, ◌++◌, map, refl, sym, ◌∙◌, ap, subst, inl, inr}
-use Rattle.std.proofs.lemmas.Bool.{and_parts, and_from, or_parts, both_ways, eq-eqb}
-use Rattle.std.specs.Prelude.{◌⊎◌, nat_eq, if◌then◌else◌}
-use Rattle.std.specs.List.{flat_map}
+use Rattle.std.proofs.Common.{◌≡◌, ℕ, Bool, true, false, ◌&&◌, ◌||◌, Option, Some, None, is_some, List, [], ◌∷◌, ◌++◌, refl, ◌∙◌, inl, inr}
+use Rattle.std.proofs.lemmas.Bool.{and_parts, and_from, both_ways}
+use Rattle.std.specs.Prelude.{◌⊎◌, if◌then◌else◌}
 use Rattle.pv_base.specs.declared.Name.{Name}
 use Rattle.pv_base.specs.declared.Span.{Span}
-use Rattle.pv_ast.specs.declared.Word.{Word}
 use Rattle.pv_ast.specs.declared.Operator.{Operator}
 use Rattle.pv_ast.specs.declared.Operator.TheVariants as op
-use Rattle.pv_ast.specs.declared.Token.{Token}
-use Rattle.pv_ast.specs.declared.Token.TheVariants as token
-use Rattle.pv_ast.specs.declared.PvType.{PvType}
-use Rattle.pv_ast.specs.declared.PvType.TheVariants.{Int, Truth, Object}
-use Rattle.pv_ast.specs.declared.Expr.{Expr, Expr-F, ind-Expr, roll-Expr, map-Expr}
-use Rattle.pv_ast.specs.declared.ExprKind.{ExprKind, ExprKind-F, roll-ExprKind, map-ExprKind}
-use Rattle.pv_ast.specs.declared.Each.{Each, Each-F, roll-Each, map-Each}
-use Rattle.pv_rules.specs.declared.fault.Rule.TheVariants as rule
+use Rattle.pv_ast.specs.declared.PvType.TheVariants.{Int, Truth}
+use Rattle.pv_ast.specs.declared.ExprKind.{ExprKind-F}
 use Rattle.pv_rules.specs.declared.fault.ShapeFault.{ShapeFault}
-use Rattle.pv_rules.specs.declared.scope.Declaration.TheVariants.{Bound}
 use Rattle.pv_rules.specs.declared.standing.Context.{Context}
-use Rattle.pv_rules.specs.declared.standing.Need.TheVariants.{Anything, Exactly, AnObject, AnArray}
-use Rattle.pv_rules.specs.declared.standing.Seen.{Seen}
-use Rattle.pv_rules.specs.declared.standing.Typing.{Typing}
-use Rattle.pv_rules.specs.declared.standing.Typing.TheVariants.{Typed}
-use Rattle.pv_rules.specs.Scoping.{Visible, is_visible}
+use Rattle.pv_rules.specs.declared.standing.Need.TheVariants.{Anything, Exactly}
+use Rattle.pv_rules.specs.Scoping.{Visible}
 use Rattle.pv_rules.specs.Items as items
 use Rattle.pv_rules.specs.Items.{Facts, Form, Use, Whole, star_body, truth_body, clause, Shape, or_else, item_of_pure, item_of_use, item_of_location, item_of_token, item_of_operator, item_of_implication, guarded_item, fixed, position, is_empty, fault_unless, fault_at, is_part, is_guard, is_fixing, is_variable, has_variable_and_term, is_variable_and_term, is_term, variable, literal, shift, element, guard, fixing, other, body_of}
-use Rattle.pv_rules.specs.Shapes.{quantifiers_in, quantifiers_in_option, quantifiers_in_all}
-use Rattle.pv_rules.specs.Shapes as shapes
 use Rattle.pv_rules.specs.Typing as typing
-use Rattle.pv_rules.specs.Parts as parts
-use Rattle.pv_rules.specs.Parts.{Around, Part, part_of, typing_in, is_length, need_of_target, with_bound, under_quantifier}
-use Rattle.pv_rules.specs.Statements.{part_of_option, parts_of, faults_of_formula}
+use Rattle.pv_rules.specs.Parts.{Around, typing_in}
+use Rattle.pv_rules.specs.Statements.{parts_of}
 use Rattle.pv_meaning.specs.Core.{Expression, Formula, Items, Item}
 use Rattle.pv_meaning.specs.Core as core
-use Rattle.pv_picks.specs.Names.{settled, class_at}
-use Rattle.pv_picks.specs.Pieces.{Piece, KindPiece, EachPiece, Layer, piece_in_kind, piece_in_each, piece_in_expr, piece_of, piece_of_kind, piece_of_each, conjunct, alone, object_of, class_of_object, arguments_of, part_option, form_for, item_in_kind, type_of_piece, units_of, core_of_formula}
-use Rattle.pv_picks.specs.Statements.{pieces_of}
-use Rattle.pv_picks.proofs.Clean.{Clean, unless_holds, if_fails}
-use Rattle.pv_picks.proofs.Layers.{layer_of, each_layer_of, kind_at_roll, each_at_roll, expr_at_roll, part_in_piece, shape_in_piece}
-use Rattle.pv_picks.proofs.Sound.{sound_with}
-use Rattle.pv_picks.proofs.Uses.{parts_same, target_same}
-use Rattle.typed_programs.specs.Expressions.{Home, Speech, type_in, Says}
-use Rattle.typing_laws.specs.Formulas.{FormulaFits, ItemsFit, ItemFits}
-use Rattle.typing_laws.proofs.Types.{itself, object_wanted}
-use Rattle.typing_laws.proofs.Scopes.{type_of, not_listed, variable_listed}
-use Rattle.typing_laws.proofs.Places.{Place, Speaks, Strict, speaks_purely, speaks_quantified}
-use Rattle.typing_laws.proofs.Forms.{IsPosition, is_element, shown, variable_pure}
+use Rattle.pv_picks.specs.Pieces.{Piece, piece_in_kind, piece_of, conjunct, item_in_kind}
+use Rattle.pv_picks.proofs.Clean.{Clean}
+use Rattle.typed_programs.specs.Expressions.{Home, Speech}
+use Rattle.typing_laws.specs.Formulas.{ItemFits}
+use Rattle.typing_laws.proofs.Places.{Place, speaks_purely}
+use Rattle.typing_laws.proofs.Forms.{IsPosition, shown}
 use Rattle.typing_laws.proofs.Purity as purity
 use Rattle.typing_laws.proofs.Purity.{meets_at, other_int, other_array, other_object, other_target, purely, typed, located, guards, fixes, solid_pure, numbers_pure, sides_pure, position_first, position_second}
-use Rattle.typing_laws.proofs.Expressions.{Fits, expression_law, no_first, no_second}
-use Rattle.typing_laws.proofs.Uses.{object_at, instance_at, typed_place}
-use Rattle.typing_laws.proofs.Parts.{cuts_fit, term_fits, permission_fits, shifted_fits, formula_if, item_if, together_fit}
-use Rattle.typing_laws.proofs.Made.{Ready, IsRight, is_pure, no_fault, one_item, all_items, Made, KindLaw, EachLaw, ExprLaw, PieceMade, Kinds, Eaches, Exprs, without, LayerLaw, ready_at, made_at, number_goes, either, none_unless, is_item, pure_or, no_item, right_of, item_or, PureItem, PartFault, fact_made, fact_true, operation_made, whole_made}
+use Rattle.typing_laws.proofs.Expressions.{no_first, no_second}
+use Rattle.typing_laws.proofs.Parts.{cuts_fit, term_fits, formula_if, item_if, together_fit}
+use Rattle.typing_laws.proofs.Made.{Ready, IsRight, is_pure, no_fault, one_item, all_items, PieceMade, Exprs, LayerLaw, ready_at, made_at, either, is_item, pure_or, no_item, PureItem, PartFault, fact_true, operation_made}
 
 abbrev hard : Exprs → purity.Exprs
 hard e = (e.0, solid_pure e.0)
@@ -227,12 +204,12 @@ module _ (x y : Exprs) (h : Home) (a : Around) (v : Visible) (xs : List core.Par
   by_form name p true guarded i j k = (
     x_pure (fixes name p i (meets_at x.0 h a v xs (typing.purely c) (Exactly Truth) place clean)),
     no_fault (fixed_rest (is_guard ((piece_of x.0).shape.facts name.0).form) (is_fixing ((piece_of x.0).shape.facts name.0).form && is_term ((piece_of y.0).shape.facts name.0)) ((piece_of y.0).shape.item name.0) (piece_of y.0).shape.faults
-    (fixing_no_guard ((piece_of x.0).shape.facts name.0).form i) k),
+        (fixing_no_guard ((piece_of x.0).shape.facts name.0).form i) k),
   )
   by_form name p false true i j k = (
     x_pure (guards name.0 j),
     one_item name p (guarded_rest (is_guard ((piece_of x.0).shape.facts name.0).form)
-    (is_fixing ((piece_of x.0).shape.facts name.0).form && is_term ((piece_of y.0).shape.facts name.0) && is_empty (piece_of y.0).shape.faults) ((piece_of y.0).shape.item name.0) j k),
+        (is_fixing ((piece_of x.0).shape.facts name.0).form && is_term ((piece_of y.0).shape.facts name.0) && is_empty (piece_of y.0).shape.faults) ((piece_of y.0).shape.item name.0) j k),
   )
   by_form name p false false i j k =
       absurd (neither_rest (is_guard ((piece_of x.0).shape.facts name.0).form) (is_fixing ((piece_of x.0).shape.facts name.0).form) (is_term ((piece_of y.0).shape.facts name.0)) (is_empty (piece_of y.0).shape.faults)

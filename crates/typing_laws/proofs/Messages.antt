@@ -1,5 +1,5 @@
 -- Messages of a counted loop: what its body sends is well typed at its head, and what it receives is sent.
-use Rattle.std.proofs.Common.{◌≡◌, ℕ, Bool, true, false, not, ◌||◌, Option, Some, None, List, [], ◌∷◌, ◌++◌, map, refl, sym, ◌∙◌, ap, subst}
+use Rattle.std.proofs.Common.{◌≡◌, ℕ, Bool, true, false, ◌||◌, Option, Some, None, List, [], ◌∷◌, ◌++◌, map, refl, sym, ◌∙◌, ap, subst}
 use Rattle.std.proofs.lemmas.Bool.{both_ways}
 use Rattle.std.proofs.lemmas.List.{append_assoc, append-nil, map-append}
 use Rattle.std.specs.Prelude.{if◌then◌else◌}
@@ -25,7 +25,6 @@ use Rattle.pv_rules.specs.Scoping.{Visible, is_visible}
 use Rattle.pv_rules.specs.Parts.{Around, part_of}
 use Rattle.pv_rules.specs.Shapes as shapes
 use Rattle.pv_rules.specs.Shapes.{quantifiers_in, faults_of_formulas as shapes_of_formulas, faults_of_each, faults_in_stmt_kind as shapes_in_stmt_kind, faults_in_stmt, faults_of_stmt, faults_of_stmt_kind}
-use Rattle.pv_rules.specs.Statements as statements
 use Rattle.pv_rules.specs.Statements.{StmtPart, Messages, no_messages, has_label, unknown_labels, messages_of_statements, faults_of_statements, between_members, in_branch, in_while}
 use Rattle.pv_meaning.specs.Core.{Message}
 use Rattle.pv_meaning.specs.Core as core

@@ -42,7 +42,7 @@ use Rattle.pv_picks.proofs.Sound.{Sound}
 use Rattle.pv_picks.proofs.StmtLayers.{layer_of, kind_rolled, stmt_rolled, parts_in_pieces}
 use Rattle.pv_picks.proofs.Whole.{sound_class, sound_params, sound_result, result_declared}
 use Rattle.typed_programs.specs.Expressions.{Home, Speech}
-use Rattle.typed_programs.specs.Blocks.{types_of, gives_statement, gives, BlockFits, ends, home_of, over, MethodFits, ProgramFits}
+use Rattle.typed_programs.specs.Blocks.{types_of, gives_statement, gives, home_of, over, MethodFits, ProgramFits}
 use Rattle.typing_laws.proofs.Scopes.{nothing_listed, params_listed}
 use Rattle.typing_laws.proofs.Places.{Declares, IsMethodThere, IsPredicateThere, Place}
 use Rattle.typing_laws.proofs.Expressions.{no_first, no_second}

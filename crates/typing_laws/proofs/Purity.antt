@@ -1,12 +1,11 @@
 -- Where the rules let nothing but what is pure stand: an expression without a fault is pure by its shape.
-use Rattle.std.proofs.Common.{◌≡◌, ℕ, Bool, true, false, not, ◌&&◌, ◌||◌, Some, None, List, [], ◌∷◌, ◌++◌, map, refl, sym, ◌∙◌, ap, subst}
-use Rattle.std.proofs.lemmas.Bool.{and_parts, and_from, or_parts, both_ways}
+use Rattle.std.proofs.Common.{◌≡◌, ℕ, Bool, true, false, not, ◌&&◌, Some, None, List, [], ◌∷◌, ◌++◌, map, refl, sym, ap, subst}
+use Rattle.std.proofs.lemmas.Bool.{and_parts, and_from, both_ways}
 use Rattle.std.specs.Prelude.{nat_eq, if◌then◌else◌}
 use Rattle.pv_base.specs.declared.Name.{Name}
 use Rattle.pv_base.specs.declared.Span.{Span}
 use Rattle.pv_ast.specs.declared.Operator.{Operator}
 use Rattle.pv_ast.specs.declared.Operator.TheVariants as op
-use Rattle.pv_ast.specs.declared.PvType.{PvType}
 use Rattle.pv_ast.specs.declared.PvType.TheVariants.{Int, Truth, Object, IntArray, TruthArray, Null}
 use Rattle.pv_ast.specs.declared.Expr.{Expr, Expr-F, ind-Expr, roll-Expr, map-Expr}
 use Rattle.pv_ast.specs.declared.ExprKind.{ExprKind, ExprKind-F, roll-ExprKind, map-ExprKind}
@@ -21,7 +20,7 @@ use Rattle.pv_rules.specs.declared.standing.Seen.{Seen}
 use Rattle.pv_rules.specs.declared.standing.Typing.{Typing}
 use Rattle.pv_rules.specs.declared.standing.Typing.TheVariants.{Unsettled, Untyped, Typed}
 use Rattle.pv_rules.specs.Scoping.{Visible}
-use Rattle.pv_rules.specs.Items.{Facts, guard, fixing, is_guard, is_fixing, is_variable, is_variable_and_term, has_variable_and_term, is_term, form_if, facts_of_operator, facts_around}
+use Rattle.pv_rules.specs.Items.{Facts, guard, fixing, is_guard, is_fixing, is_variable, is_variable_and_term, form_if, facts_of_operator, facts_around}
 use Rattle.pv_rules.specs.Typing as typing
 use Rattle.pv_rules.specs.Parts.{Around, Part, Signature, unsought, unknown, taking, typing_in, is_length, need_of_target, typing_of_use, value_seen, not_pure, predicate_signature, holder_of, seen_of_target}
 use Rattle.pv_meaning.specs.Core as core

@@ -17,33 +17,31 @@ use Rattle.pv_rules.specs.declared.fault.ShapeFault.{ShapeFault}
 use Rattle.pv_rules.specs.declared.scope.Declaration.TheVariants.{Local, LoopVariable}
 use Rattle.pv_base.specs.declared.Name.{Name}
 use Rattle.pv_rules.specs.declared.standing.Need.{Need}
-use Rattle.pv_rules.specs.declared.standing.Need.TheVariants.{Exactly}
 use Rattle.pv_rules.specs.declared.standing.Spot.{Spot}
 use Rattle.pv_rules.specs.declared.standing.Surround.TheVariants as surround
 use Rattle.pv_rules.specs.Lookup.{is_declared_type}
 use Rattle.pv_rules.specs.Scoping.{Visible, declare_variable, entered, is_visible, is_block_around}
-use Rattle.pv_rules.specs.Parts.{Around, part_of}
+use Rattle.pv_rules.specs.Parts.{Around}
 use Rattle.pv_rules.specs.Shapes as shapes
 use Rattle.pv_rules.specs.Shapes.{quantifiers_in, quantifiers_in_option, quantifiers_in_all, quantifiers_in_right, quantifiers_in_range, faults_of_formulas as shapes_of_formulas, faults_of_item_contract, faults_of_each, faults_in_stmt_kind as shapes_in_stmt_kind, faults_in_stmt, faults_of_stmt, faults_of_stmt_kind}
 use Rattle.pv_rules.specs.Statements as statements
 use Rattle.pv_rules.specs.Statements.{StmtPart, Messages, no_messages, messages_of_statements, faults_of_statements, in_statement, in_condition, in_invariant, between_members, is_loop, in_branch, in_while, among_members, need_like, need_of_result, is_return_place, with_block}
 use Rattle.pv_meaning.specs.Core.{Expression, Block, Statement}
 use Rattle.pv_meaning.specs.Core as core
-use Rattle.pv_picks.specs.Pieces.{piece_of, object_of, core_of_formula}
+use Rattle.pv_picks.specs.Pieces.{piece_of, object_of}
 use Rattle.pv_picks.specs.Statements.{StmtPiece, StmtKindPiece, Site, at, block_from, inside_for, inside_par, in_for, in_par, piece_in_stmt_kind, piece_in_stmt, piece_of_stmt, piece_of_stmt_kind}
 use Rattle.pv_picks.proofs.Clean.{Clean, unless_holds, if_fails}
 use Rattle.pv_picks.proofs.Sound.{sound_with}
 use Rattle.pv_picks.proofs.Agreeing.{agree_local, agree_head}
-use Rattle.pv_picks.proofs.Heads.{at_head}
 use Rattle.pv_picks.proofs.StmtLayers.{layer_of, kind_at_roll, stmt_at_roll}
 use Rattle.pv_picks.proofs.Stmts.{sound_for, sound_par}
 use Rattle.typed_programs.specs.Expressions.{Home, Speech, silent, IsOf}
 use Rattle.typed_programs.specs.Blocks.{types_of, inside, BlockFits, StatementFits, ends, goes_first, declares, assigns, branches, loops, opens, meets, acts, folds, unfolds, asserts, sends, receives, leaves, answers}
 use Rattle.typing_laws.proofs.Scopes.{not_listed, variable_listed, loop_listed, block_name_listed}
-use Rattle.typing_laws.specs.Formulas.{DeclaredBy, FormulaFits, StatementSays, BlockSays}
+use Rattle.typing_laws.specs.Formulas.{DeclaredBy, StatementSays, BlockSays}
 use Rattle.typing_laws.proofs.Places.{Place, Speaks, says_nothing, statement_strict}
 use Rattle.typing_laws.proofs.Standing.{InLoop, At, speaks_there, first_there, blocks_more}
-use Rattle.typing_laws.proofs.Formulas.{formula_fits, item_formula_fits}
+use Rattle.typing_laws.proofs.Formulas.{formula_fits}
 use Rattle.typing_laws.proofs.Clauses.{invariants_fit, shared_fits}
 use Rattle.typing_laws.proofs.Messages.{IsAmong, labels_of, between, message_fits, last_one, statements_grow, statements_label, statements_tell, all_sent, received_fits}
 use Rattle.std.specs.List.{AllByRecursion}

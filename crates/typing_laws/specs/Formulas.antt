@@ -1,5 +1,5 @@
 -- Well typed formulas of a plain program, by the variables in scope: of contracts, predicates, locks and statements.
-use Rattle.std.specs.Prelude.{◌≡◌, ◌⊎◌, false, is_some, Option, Some, None, List, [], ◌∷◌}
+use Rattle.std.specs.Prelude.{◌≡◌, ◌⊎◌, is_some, Option, Some, None, List, [], ◌∷◌}
 use Rattle.std.specs.List.{AllByRecursion}
 use Rattle.pv_base.specs.declared.Name.{Name}
 use Rattle.pv_ast.specs.declared.PvType.TheVariants.{Int, Truth, Object}
