@@ -12,6 +12,7 @@ mod Formulas
 mod Clauses
 mod Standing
 mod Messages
+mod Targets
 mod Statements
 mod Members
 mod Programs

@@ -25,11 +25,11 @@ use Rattle.pv_rules.specs.Parts.{Around}
 use Rattle.pv_rules.specs.Shapes as shapes
 use Rattle.pv_rules.specs.Shapes.{quantifiers_in, quantifiers_in_option, quantifiers_in_all, quantifiers_in_right, quantifiers_in_range, faults_of_formulas as shapes_of_formulas, faults_of_item_contract, faults_of_each, faults_in_stmt_kind as shapes_in_stmt_kind, faults_in_stmt, faults_of_stmt, faults_of_stmt_kind}
 use Rattle.pv_rules.specs.Statements as statements
-use Rattle.pv_rules.specs.Statements.{StmtPart, Messages, no_messages, messages_of_statements, faults_of_statements, in_statement, in_condition, in_invariant, between_members, is_loop, in_branch, in_while, among_members, need_like, need_of_result, is_return_place, with_block}
+use Rattle.pv_rules.specs.Statements.{StmtPart, Messages, no_messages, messages_of_statements, faults_of_statements, in_statement, in_condition, in_invariant, between_members, is_loop, in_branch, in_while, among_members, need_like, need_of_result, is_return_place, is_assignable, with_block}
 use Rattle.pv_meaning.specs.Core.{Expression, Block, Statement}
 use Rattle.pv_meaning.specs.Core as core
 use Rattle.pv_picks.specs.Pieces.{piece_of, object_of}
-use Rattle.pv_picks.specs.Statements.{StmtPiece, StmtKindPiece, Site, at, block_from, inside_for, inside_par, in_for, in_par, piece_in_stmt_kind, piece_in_stmt, piece_of_stmt, piece_of_stmt_kind}
+use Rattle.pv_picks.specs.Statements.{core_of_right, StmtPiece, StmtKindPiece, Site, at, block_from, inside_for, inside_par, in_for, in_par, piece_in_stmt_kind, piece_in_stmt, piece_of_stmt, piece_of_stmt_kind}
 use Rattle.pv_picks.proofs.Clean.{Clean, unless_holds, if_fails}
 use Rattle.pv_picks.proofs.Sound.{sound_with}
 use Rattle.pv_picks.proofs.Agreeing.{agree_local, agree_head}
@@ -43,6 +43,7 @@ use Rattle.typing_laws.proofs.Places.{Place, Speaks, says_nothing, statement_str
 use Rattle.typing_laws.proofs.Standing.{InLoop, At, speaks_there, first_there, blocks_more}
 use Rattle.typing_laws.proofs.Formulas.{formula_fits}
 use Rattle.typing_laws.proofs.Clauses.{invariants_fit, shared_fits}
+use Rattle.typing_laws.proofs.Targets.{target_kept}
 use Rattle.typing_laws.proofs.Messages.{IsAmong, labels_of, between, message_fits, last_one, statements_grow, statements_label, statements_tell, all_sent, received_fits}
 use Rattle.std.specs.List.{AllByRecursion}
 use Rattle.typing_laws.proofs.Expressions.{no_first, no_second}
@@ -255,7 +256,8 @@ assign_law to value = λ h speech a v xs head spot span site around place stands
     still spot site place stands (assigns t.type t.target
     (right_goes value.kind h a v xs t.type value.span place
     (subst (λ (need : Need). Clean (statements.faults_of_right a v need value)) t.need clean.1.1.0)
-    (no_second (quantifiers_in to) (quantifiers_in_right value) none))) tt
+    (no_second (quantifiers_in to) (quantifiers_in_right value) none)))
+    (target_kept to h a v xs (core_of_right a v value) place clean.0 (no_first (quantifiers_in to) (quantifiers_in_right value) none) (unless_holds (is_assignable a v to) rule.NotAssignable to.span clean.1.0))
 
 call_law : (target : Option Expr) (w : Word) (args : List Expr) → LayerLaw (StmtKind-F.Call target w args)
 call_law target w args = λ h speech a v xs head spot span site around place stands m hears returns clean none.

@@ -64,7 +64,7 @@ meets_need e h a v xs need place clean = meets_in e h a v xs in_statement need p
 as_part : (e : Expr) (a : Around) (v : Visible) (need : Need) → typing.meets need (typing_in (piece_of e).part a v) ≡ true → typing.meets need (typing_in (part_of e) a v) ≡ true
 as_part e a v need m = subst (λ (p : Part). typing.meets need (typing_in p a v) ≡ true) (part_in_piece e) m
 
-fits : (e : Expr) (h : Home) (speech : Speech) (a : Around) (v : Visible) (xs : List core.Parameter) (c : Context) (need : Need) → Place h a v xs → Strict speech a c → Clean ((part_of e).faults a v c need) → quantifiers_in e ≡ []
+pub fits : (e : Expr) (h : Home) (speech : Speech) (a : Around) (v : Visible) (xs : List core.Parameter) (c : Context) (need : Need) → Place h a v xs → Strict speech a c → Clean ((part_of e).faults a v c need) → quantifiers_in e ≡ []
     → Fits h speech a xs ((piece_of e).part.seen a v) (core_of_expression a v e)
 fits e h speech a v xs c need place strict clean none =
     let clean_piece : Clean ((piece_of e).part.faults a v c need) = subst (λ (p : Part). Clean (p.faults a v c need)) (sym (part_in_piece e)) clean in

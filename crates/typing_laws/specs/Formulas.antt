@@ -4,7 +4,7 @@ use Rattle.std.specs.List.{AllByRecursion}
 use Rattle.pv_base.specs.declared.Name.{Name}
 use Rattle.pv_ast.specs.declared.PvType.TheVariants.{Int, Truth, Object}
 use Rattle.pv_meaning.specs.Core as core
-use Rattle.pv_meaning.specs.Core.{Program, Class, Member, Predicate, Method, Parameter, Shared, Cut, Formula, Items, Item, Statement, Block}
+use Rattle.pv_meaning.specs.Core.{Program, Class, Member, Predicate, Method, Parameter, Shared, Cut, Formula, Items, Item, Target, Right, Statement, Block}
 use Rattle.pv_meaning.specs.Values.{array_of}
 use Rattle.pv_meaning.specs.Members.{class_named, field_type, predicate_named}
 use Rattle.typed_programs.specs.Expressions.{Home, Speech, silent, type_in, IsElement, Says, AllSay}
@@ -58,11 +58,21 @@ abbrev pub DeclaredBy : Home → List Parameter → Statement → Parameter → 
 DeclaredBy h xs (core.Assign (core.ToVariable name) right span) x = (x.0 ≡ name) × (type_in xs name ≡ None) × RightFits h xs right x.1
 DeclaredBy h xs _ x = ⊥
 
+-- nothing goes nowhere but the result of a call
+abbrev pub IsKept : Target → Right → Type 0
+IsKept core.Nowhere (core.Value' e) = ⊥
+IsKept core.Nowhere (core.Call class method object arguments) = Unit {0}
+IsKept core.Nowhere (core.NewObject class) = ⊥
+IsKept core.Nowhere (core.NewArray element size) = ⊥
+IsKept (core.ToVariable name) right = Unit {0}
+IsKept (core.ToField object class name span) right = Unit {0}
+IsKept (core.ToElement element array index span) right = Unit {0}
+
 -- Well typed blocks whose formulas are well typed. The formulas of a method's own body may speak of the state that it began in.
 -- A message speaks of what is in scope at the head of the innermost body.
 abbrev mutual
   pub StatementSays : Home → Speech → List Parameter → List Parameter → Statement → Type 0
-  StatementSays h speech head xs (core.Assign target right span) = Unit {0}
+  StatementSays h speech head xs (core.Assign target right span) = IsKept target right
   StatementSays h speech head xs (core.If e first second) = BlockSays h speech head xs first × BlockSays h speech head xs second
   StatementSays h speech head xs (core.While assigned invariant e body span) = FormulaFits h speech xs invariant × BlockSays h speech head xs body
   StatementSays h speech head xs (core.Members team body span) =
