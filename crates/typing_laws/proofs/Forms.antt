@@ -37,8 +37,7 @@ abbrev pub IsAccess : Expression → Type 0
 IsAccess (core.Element type e i span) = Unit {0}
 IsAccess _ = ⊥
 
--- it is as pure for each variable as for another; what has the form of the position is it; what fixes it is an equality of it; and
--- what has the form of an element is one
+-- what forms say: a position is its variable, what fixes one is an equality of it, an element is one; purity hangs on no variable
 pub record Shows (seen : Around → Visible → Seen) (expression : Around → Visible → Expression) (facts : ℕ → Facts) : Type 0 where
   pub same : (m n : ℕ) → (facts m).pure ≡ (facts n).pure
   pub position : (a : Around) (v : Visible) (name : Name) → IsPosition v name → is_variable (facts name.0).form ≡ true → (expression a v ≡ core.Variable name) × ((seen a v).typing ≡ Typed Int)

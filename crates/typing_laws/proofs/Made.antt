@@ -29,8 +29,7 @@ use Rattle.typing_laws.proofs.Purity.{meets_at, other_int, typed, solid_pure}
 use Rattle.typing_laws.proofs.Expressions.{expression_law}
 use Rattle.typing_laws.proofs.Parts.{formula_if}
 
--- what is known of an expression where a truth value is needed: it has that type, goes there where it is pure, and is as pure for one
--- variable as for another
+-- an expression where a truth value is needed: it has that type, and goes there where it is pure, which hangs on no variable
 pub record Ready (h : Home) (speech : Speech) (xs : List core.Parameter) (facts : ℕ → Facts) (s : Seen) (e : Expression) : Type 0 where
   pub typed : typing.meets (Exactly Truth) s.typing ≡ true
   pub says : (facts 0).pure ≡ true → Says h speech xs e Truth

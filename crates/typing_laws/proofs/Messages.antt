@@ -69,8 +69,7 @@ message_fits e h a v head there around l clean none =
 pub agreeing : {h : Home} {a : Around} {v after : Visible} {head : List core.Parameter} {there : Visible} {around : shapes.Around} → Agree after there → InLoop h a v head there around → InLoop h a after head there around
 agreeing agree l = record { position = l.position; loop = l.loop; number = l.number; place = l.place; agree = agree }
 
--- what a statement hears and sends: it forgets nothing that was received before; the labels of what it sends are those of its messages,
--- which are well typed; and behind it the scope agrees with that at the head still
+-- what a statement hears and sends: what was received before stays, and what it sends has the labels that it tells, and is well typed
 pub record Sends (messages : Messages → Messages) (behind : Visible → Visible) (faults : Around → Visible → Spot → Faults) (sent : Around → Visible → List Message) (shape : shapes.Around → List ShapeFault) : Type 0 where
   pub grows : (names : List Name) (m : Messages) → AllByRecursion (IsAmong names) (messages m).received → AllByRecursion (IsAmong names) m.received
   pub labels : (a : Around) (there : Visible) (m : Messages) → names_of (messages m).sent ≡ names_of m.sent ++ labels_of (sent a there)

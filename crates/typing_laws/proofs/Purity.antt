@@ -141,8 +141,7 @@ beside_right Untyped k = absurd cc
 
 -- Solid parts
 
--- what must be pure: where the context asks for it and no quantifier stands; what has another type than a truth value; a place; guards
--- on a position, and what fixes one
+-- why an expression must be pure: its context, its type, that it is a place, guards on a position, or fixes one
 pub data IsSolid : Visible → Context → List ShapeFault → Seen → (ℕ → Facts) → Type 0 where
   purely : {v : Visible} {c : Context} {quantifiers : List ShapeFault} {s : Seen} {facts : ℕ → Facts} → c.pure ≡ true → quantifiers ≡ [] → IsSolid v c quantifiers s facts
   typed : {v : Visible} {c : Context} {quantifiers : List ShapeFault} {s : Seen} {facts : ℕ → Facts} → is_other s.typing ≡ true → IsSolid v c quantifiers s facts

@@ -18,8 +18,7 @@ CutFits h speech xs (core.Above e) = Says h speech xs e Int
 CutFits h speech xs (core.From e) = Says h speech xs e Int
 CutFits h speech xs (core.Provided e) = Says h speech xs e Truth
 
--- A fact is a truth value; a permission is one to a field of its class, of its type, or to an element of its array. A quantifier's name
--- isn't in scope yet, and stands for a number in its items.
+-- formulas, items and one item; a quantifier's name isn't in scope yet, and stands for a number in its items
 abbrev mutual
   pub FormulaFits : Home → Speech → List Parameter → Formula → Type 0
   FormulaFits h speech xs (core.Fact e span) = Says h speech xs e Truth
@@ -68,8 +67,7 @@ IsKept (core.ToVariable name) right = Unit {0}
 IsKept (core.ToField object class name span) right = Unit {0}
 IsKept (core.ToElement element array index span) right = Unit {0}
 
--- Well typed blocks whose formulas are well typed. The formulas of a method's own body may speak of the state that it began in.
--- A message speaks of what is in scope at the head of the innermost body.
+-- statements and blocks whose formulas are well typed, by what they may speak of, the variables at the head of the body, and those in scope
 abbrev mutual
   pub StatementSays : Home → Speech → List Parameter → List Parameter → Statement → Type 0
   StatementSays h speech head xs (core.Assign target right span) = IsKept target right
