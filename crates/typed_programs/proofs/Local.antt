@@ -150,7 +150,7 @@ module _ (h : Home) (heap : Heap) (f : Frame) (xs : List Parameter) (given : Boo
   evaluated-fits {stack} (Constant v) type rest a vs d = with_values (type ∷ stack) (v ∷ f.values) rest (constant-fits heap v type a, vs) d
   evaluated-fits {stack} This type rest a vs d =
       with_values (Object h.class ∷ stack) (value.Reference f.this ∷ f.values) rest (this, vs) (retyped type (Object h.class) a d)
-  evaluated-fits Result type rest a vs d = absurd a
+  evaluated-fits Result type rest a vs d = absurd (none-some type a)
   evaluated-fits {stack} (Variable name) type rest a vs d =
       with_values (type ∷ stack) (f.variables name.0 ∷ f.values) rest (variables name type a, vs) d
   evaluated-fits {stack} (Field object class name span) type rest a vs d =
@@ -172,7 +172,7 @@ module _ (h : Home) (heap : Heap) (f : Frame) (xs : List Parameter) (given : Boo
       with_values stack f.values _ vs (evaluates Truth a.0 (chooses Truth refl a.1 (retyped type Truth a.2 d)))
   evaluated-fits {stack} (Implies x y) type rest a vs d =
       with_values stack f.values _ vs (evaluates Truth a.0 (chooses Truth a.1 refl (retyped type Truth a.2 d)))
-  evaluated-fits (Old e) type rest a vs d = absurd a
+  evaluated-fits (Old e) type rest a vs d = absurd (let no = a.0 in cc)
 
   turned : (c : Bool) {stack : List PvType} (loop : Loop) (rest : List Task) → IsOf h xs loop.condition Truth → BlockFits h xs loop.body
       → TasksFit h xs given stack rest → TasksFit h xs given stack (cond c (Run loop.body ∷ Stand (AtHead check.LoopKeep loop) ∷ rest) rest)

@@ -1,4 +1,4 @@
--- Types of expressions in the bodies of a plain program.
+-- Types of expressions of a plain program, in bodies and in formulas.
 use Rattle.std.specs.Prelude.{◌≡◌, ◌⊎◌, zero, suc, Bool, true, false, nat_eq, if◌then◌else◌, IsTrue, Option, Some, None, unwrap_or, List, [], ◌∷◌}
 use Rattle.pv_base.specs.declared.Name.{Name}
 use Rattle.pv_ast.specs.declared.PvType.{PvType}
@@ -43,31 +43,47 @@ IsConstantOf (value.Truth b) type = type ≡ Truth
 IsConstantOf (value.Reference zero) type = IsTrue (is_reference type)
 IsConstantOf (value.Reference (suc n)) type = ⊥
 
--- an expression goes where the type is wanted; `\result` and `\old` stand in formulas alone
-abbrev pub IsOf : Home → List Parameter → Expression → PvType → Type 0
-IsOf h xs (Constant v) type = IsConstantOf v type
-IsOf h xs This type = type ≡ Object h.class
-IsOf h xs Result type = ⊥
-IsOf h xs (Variable name) type = type_in xs name ≡ Some type
-IsOf h xs (Field object class name span) type = IsOf h xs object (Object class) × (field_type h.program class name ≡ Some type)
-IsOf h xs (Element element array index span) type =
-    IsOf h xs array (array_of element) × IsOf h xs index Int × IsElement element × (type ≡ element)
-IsOf h xs (Length element array span) type = IsOf h xs array (array_of element) × IsElement element × (type ≡ Int)
-IsOf h xs (Not e) type = IsOf h xs e Truth × (type ≡ Truth)
-IsOf h xs (Compute manner operation a b span) type = IsOf h xs a Int × IsOf h xs b Int × (type ≡ Int)
-IsOf h xs (Compare order a b) type = IsOf h xs a Int × IsOf h xs b Int × (type ≡ Truth)
-IsOf h xs (Equal same a b) type = (both : PvType) × IsOf h xs a both × IsOf h xs b both × (type ≡ Truth)
-IsOf h xs (And a b) type = IsOf h xs a Truth × IsOf h xs b Truth × (type ≡ Truth)
-IsOf h xs (Or a b) type = IsOf h xs a Truth × IsOf h xs b Truth × (type ≡ Truth)
-IsOf h xs (Implies a b) type = IsOf h xs a Truth × IsOf h xs b Truth × (type ≡ Truth)
-IsOf h xs (Old e) type = ⊥
+-- what an expression may speak of beside its state: `\result`, of a type, and with `\old` the state that a method began in
+pub record Speech : Type 0 where
+  pub result : Option PvType
+  pub old : Bool
+
+-- in the bodies of methods
+abbrev pub silent : Speech
+silent = record { result = None; old = false }
+
+-- an expression with such a speech goes where the type is wanted
+abbrev pub Says : Home → Speech → List Parameter → Expression → PvType → Type 0
+Says h speech xs (Constant v) type = IsConstantOf v type
+Says h speech xs This type = type ≡ Object h.class
+Says h speech xs Result type = speech.result ≡ Some type
+Says h speech xs (Variable name) type = type_in xs name ≡ Some type
+Says h speech xs (Field object class name span) type = Says h speech xs object (Object class) × (field_type h.program class name ≡ Some type)
+Says h speech xs (Element element array index span) type =
+    Says h speech xs array (array_of element) × Says h speech xs index Int × IsElement element × (type ≡ element)
+Says h speech xs (Length element array span) type = Says h speech xs array (array_of element) × IsElement element × (type ≡ Int)
+Says h speech xs (Not e) type = Says h speech xs e Truth × (type ≡ Truth)
+Says h speech xs (Compute manner operation a b span) type = Says h speech xs a Int × Says h speech xs b Int × (type ≡ Int)
+Says h speech xs (Compare order a b) type = Says h speech xs a Int × Says h speech xs b Int × (type ≡ Truth)
+Says h speech xs (Equal same a b) type = (both : PvType) × Says h speech xs a both × Says h speech xs b both × (type ≡ Truth)
+Says h speech xs (And a b) type = Says h speech xs a Truth × Says h speech xs b Truth × (type ≡ Truth)
+Says h speech xs (Or a b) type = Says h speech xs a Truth × Says h speech xs b Truth × (type ≡ Truth)
+Says h speech xs (Implies a b) type = Says h speech xs a Truth × Says h speech xs b Truth × (type ≡ Truth)
+Says h speech xs (Old e) type = IsTrue speech.old × Says h speech xs e type
 
 -- each expression goes where its type is wanted
+abbrev pub AllSay : Home → Speech → List Parameter → List Expression → List PvType → Type 0
+AllSay h speech xs [] [] = Unit {0}
+AllSay h speech xs [] (type ∷ types) = ⊥
+AllSay h speech xs (e ∷ es) [] = ⊥
+AllSay h speech xs (e ∷ es) (type ∷ types) = Says h speech xs e type × AllSay h speech xs es types
+
+-- an expression of a body goes where the type is wanted; `\result` and `\old` stand in formulas alone
+abbrev pub IsOf : Home → List Parameter → Expression → PvType → Type 0
+IsOf h xs e type = Says h silent xs e type
+
 abbrev pub AreOf : Home → List Parameter → List Expression → List PvType → Type 0
-AreOf h xs [] [] = Unit {0}
-AreOf h xs [] (type ∷ types) = ⊥
-AreOf h xs (e ∷ es) [] = ⊥
-AreOf h xs (e ∷ es) (type ∷ types) = IsOf h xs e type × AreOf h xs es types
+AreOf h xs es types = AllSay h silent xs es types
 
 -- types over others, the last on top
 abbrev pub onto : List PvType → List PvType → List PvType

@@ -1,6 +1,6 @@
 -- What an expression of a statement becomes goes where its type is wanted.
 use Rattle.std.proofs.Common.{◌≡◌, ℕ, Bool, true, false, not, ◌||◌, Option, Some, None, option_map, List, [], ◌∷◌, ◌++◌, refl, sym, ◌∙◌, ap, subst}
-use Rattle.std.proofs.lemmas.Bool.{and_parts, both_ways, or_left, not_from_false}
+use Rattle.std.proofs.lemmas.Bool.{and_parts}
 use Rattle.std.specs.Prelude.{if◌then◌else◌}
 use Rattle.pv_base.specs.declared.Name.{Name}
 use Rattle.pv_base.specs.declared.Span.{Span}
@@ -11,50 +11,60 @@ use Rattle.pv_ast.specs.declared.PvType.TheVariants.{Int, Truth, Object, IntArra
 use Rattle.pv_ast.specs.declared.Param.{Param}
 use Rattle.pv_ast.specs.declared.Expr.{Expr, Expr-F, ind-Expr, roll-Expr, map-Expr}
 use Rattle.pv_ast.specs.declared.ExprKind.{ExprKind, ExprKind-F, roll-ExprKind, map-ExprKind}
-use Rattle.pv_ast.specs.declared.Each.{Each}
+use Rattle.pv_ast.specs.declared.Each.{Each, Each-F, roll-Each}
 use Rattle.pv_rules.specs.declared.fault.Rule.TheVariants as rule
 use Rattle.pv_rules.specs.declared.fault.ShapeFault.{ShapeFault}
-use Rattle.pv_rules.specs.declared.fault.ShapeFault.TheVariants.{QuantifierShape}
 use Rattle.pv_rules.specs.declared.scope.Declared.{Declared}
 use Rattle.pv_rules.specs.declared.standing.Context.{Context}
 use Rattle.pv_rules.specs.declared.standing.Need.{Need}
-use Rattle.pv_rules.specs.declared.standing.Need.TheVariants.{Exactly, AnArray}
+use Rattle.pv_rules.specs.declared.standing.Need.TheVariants.{Anything, Exactly, AnArray}
 use Rattle.pv_rules.specs.declared.standing.Seen.{Seen}
 use Rattle.pv_rules.specs.declared.standing.Typing.{Typing}
 use Rattle.pv_rules.specs.declared.standing.Typing.TheVariants.{Unsettled, Untyped, Typed}
 use Rattle.pv_rules.specs.Lookup.{class_named, field_named}
 use Rattle.pv_rules.specs.Scoping.{Visible, variable_named}
 use Rattle.pv_rules.specs.Typing as typing
-use Rattle.pv_rules.specs.Parts.{Around, seen_of_name, type_of_field, type_of_param, typing_in, names_local, typing_of_field_in, is_array_length, holder_of, holder_of_typing, class_of, members_of, need_of_target, not_pure}
+use Rattle.pv_rules.specs.Parts.{Around, seen_of_name, type_of_field, type_of_param, typing_in, names_local, typing_of_field_in, is_array_length, holder_of, holder_of_typing, class_of, members_of, need_of_target}
 use Rattle.pv_meaning.specs.Core.{Expression}
 use Rattle.pv_meaning.specs.Core as core
 use Rattle.pv_picks.specs.Operations.{is_literal, plainly, compared, operation, negation}
 use Rattle.pv_picks.specs.Names.{class_at, elements_of, named}
 use Rattle.pv_picks.specs.Pieces.{Piece, KindPiece, EachPiece, Layer, piece_in_kind, piece_in_expr, piece_of, piece_of_kind, piece_of_each}
 use Rattle.pv_picks.proofs.Clean.{Clean, unless_holds, if_fails}
-use Rattle.pv_picks.proofs.Layers.{layer_of, kind_at_roll, expr_at_roll}
+use Rattle.pv_picks.proofs.Layers.{layer_of, kind_at_roll, each_at_roll, expr_at_roll}
 use Rattle.pv_picks.proofs.Sound.{variable_declared}
-use Rattle.typed_programs.specs.Expressions.{Home, IsOf}
+use Rattle.typed_programs.specs.Expressions.{Home, Speech, Says}
 use Rattle.typing_laws.proofs.Types.{exact, null_wanted, itself, not_null, typed_if_wanted, equality_wanted, array_wanted, element_wanted}
-use Rattle.typing_laws.proofs.Places.{Place, IsPure, purely_pure, left_pure, right_pure}
+use Rattle.typing_laws.proofs.Places.{Place, Speaks, speaks_purely, speaks_left, speaks_right}
 
-abbrev pub IsWanted : Home → List core.Parameter → Typing → Expression → Type 0
-IsWanted h xs t e = (need : PvType) → typing.meets (Exactly need) t ≡ true → IsOf h xs e need
+abbrev pub IsWanted : Home → Speech → List core.Parameter → Typing → Expression → Type 0
+IsWanted h speech xs t e = (need : PvType) → typing.meets (Exactly need) t ≡ true → Says h speech xs e need
 
--- what a part gives goes where its type is wanted, and `this` has its class
-pub record Fits (h : Home) (a : Around) (xs : List core.Parameter) (s : Seen) (e : Expression) : Type 0 where
+-- a field or an element
+abbrev pub IsPlace : Expression → Type 0
+IsPlace (core.Field e class field span) = Unit {0}
+IsPlace (core.Element type e i span) = Unit {0}
+IsPlace _ = ⊥
+
+-- what a part gives goes where its type is wanted, `this` has its class, and a place becomes one
+pub record Fits (h : Home) (speech : Speech) (a : Around) (xs : List core.Parameter) (s : Seen) (e : Expression) : Type 0 where
   pub this : s.this ≡ true → s.typing ≡ Typed (Object a.class)
-  pub goes : IsWanted h xs s.typing e
+  pub goes : IsWanted h speech xs s.typing e
+  pub place : s.location ≡ true → IsPlace e
 
--- The laws of a kind and of an expression in which no quantifier stands
+-- The laws of a kind and of an expression that are pure by their shape
 
 abbrev pub KindLaw : KindPiece → Type 0
-KindLaw k = (h : Home) (a : Around) (v : Visible) (xs : List core.Parameter) (span : Span) (c : Context) → Place h a v xs → IsPure c → Clean (k.part.faults span a v c) → k.shape.quantifiers span ≡ []
-    → Fits h a xs (k.part.seen a v) (k.expression span a v)
+KindLaw k = (h : Home) (speech : Speech) (a : Around) (v : Visible) (xs : List core.Parameter) (span : Span) (c : Context) → Place h a v xs → Speaks speech a c → Clean (k.part.faults span a v c) → (k.shape.facts 0).pure ≡ true
+    → Fits h speech a xs (k.part.seen a v) (k.expression span a v)
 
 abbrev pub ExprLaw : Piece → Type 0
-ExprLaw p = (h : Home) (a : Around) (v : Visible) (xs : List core.Parameter) (c : Context) (need : Need) → Place h a v xs → IsPure c → Clean (p.part.faults a v c need) → p.shape.quantifiers ≡ []
-    → Fits h a xs (p.part.seen a v) (p.expression a v)
+ExprLaw p = (h : Home) (speech : Speech) (a : Around) (v : Visible) (xs : List core.Parameter) (c : Context) (need : Need) → Place h a v xs → Speaks speech a c → Clean (p.part.faults a v c need) → (p.shape.facts 0).pure ≡ true
+    → Fits h speech a xs (p.part.seen a v) (p.expression a v)
+
+-- a quantifier is never pure
+abbrev pub EachLaw : EachPiece → Type 0
+EachLaw q = (n : ℕ) → (q.shape.facts n).pure ≡ false
 
 abbrev LayerLaw : Layer → Type 0
 LayerLaw l = KindLaw (piece_in_kind l)
@@ -63,7 +73,7 @@ abbrev Kinds : Type 0
 Kinds = (k : ExprKind) × KindLaw (piece_of_kind k)
 
 abbrev Eaches : Type 0
-Eaches = Each × Unit {0}
+Eaches = (q : Each) × EachLaw (piece_of_each q)
 
 abbrev Exprs : Type 0
 Exprs = (e : Expr) × ExprLaw (piece_of e)
@@ -79,25 +89,29 @@ pub no_second : (xs ys : List ShapeFault) → xs ++ ys ≡ [] → ys ≡ []
 no_second [] ys h = h
 no_second (x ∷ xs) ys h = absurd cc
 
--- a part that isn't `this`
-other_part : {h : Home} {a : Around} {xs : List core.Parameter} {t : Typing} {location local : Bool} {e : Expression} → IsWanted h xs t e
-    → Fits h a xs (record { typing = t; this = false; location = location; local = local }) e
-other_part goes = record { this = λ i. absurd cc; goes = goes }
+-- a part that is neither `this` nor a place
+other_part : {h : Home} {speech : Speech} {a : Around} {xs : List core.Parameter} {t : Typing} {local : Bool} {e : Expression} → IsWanted h speech xs t e
+    → Fits h speech a xs (record { typing = t; this = false; location = false; local = local }) e
+other_part goes = record { this = λ i. absurd cc; goes = goes; place = λ i. absurd cc }
+
+place_part : {h : Home} {speech : Speech} {a : Around} {xs : List core.Parameter} {t : Typing} {location local : Bool} {e : Expression} → IsWanted h speech xs t e → (location ≡ true → IsPlace e)
+    → Fits h speech a xs (record { typing = t; this = false; location = location; local = local }) e
+place_part goes place = record { this = λ i. absurd cc; goes = goes; place = place }
 
 -- Names
 
-own_field : (h : Home) (a : Around) (v : Visible) (xs : List core.Parameter) (span : Span) (name : Name) (o : Option PvType) → type_of_field a.here name ≡ o → Place h a v xs
-    → IsWanted h xs (typing.typing_or Unsettled o) (core.Field core.This a.class name span)
-own_field h a v xs span name None found place need k = absurd cc
-own_field h a v xs span name (Some type) found place need k =
+own_field : (h : Home) (speech : Speech) (a : Around) (v : Visible) (xs : List core.Parameter) (span : Span) (name : Name) (o : Option PvType) → type_of_field a.here name ≡ o → Place h a v xs
+    → IsWanted h speech xs (typing.typing_or Unsettled o) (core.Field core.This a.class name span)
+own_field h speech a v xs span name None found place need k = absurd cc
+own_field h speech a v xs span name (Some type) found place need k =
     let here : type_of_field (class_named a.program.classes a.class) name ≡ Some type = ap (λ c. type_of_field c name) (sym place.sound.here) ∙ found in
     let same : need ≡ type = exact need type (not_null a.program.classes type (place.sound.fields a.class name type here)) k in
     (ap Object place.class, place.declares.fields a.class name type here ∙ ap (λ t. Some t) (sym same))
 
-name_law : (h : Home) (a : Around) (v : Visible) (xs : List core.Parameter) (span : Span) (name : Name) (o : Option Declared) → variable_named v name ≡ o → Place h a v xs
-    → Fits h a xs (seen_of_name a name o) (named a span name o)
-name_law h a v xs span name None found place = other_part (own_field h a v xs span name (type_of_field a.here name) refl place)
-name_law h a v xs span name (Some d) found place = other_part (λ need k.
+name_law : (h : Home) (speech : Speech) (a : Around) (v : Visible) (xs : List core.Parameter) (span : Span) (name : Name) (o : Option Declared) → variable_named v name ≡ o → Place h a v xs
+    → Fits h speech a xs (seen_of_name a name o) (named a span name o)
+name_law h speech a v xs span name None found place = place_part (own_field h speech a v xs span name (type_of_field a.here name) refl place) (λ i. tt)
+name_law h speech a v xs span name (Some d) found place = other_part (λ need k.
     let same : need ≡ d.kind = exact need d.kind (not_null a.program.classes d.kind (variable_declared h.program a v name d place.sound found)) k in
     place.listed name ∙ ap (option_map (λ d. d.kind)) found ∙ ap (λ t. Some t) (sym same))
 
@@ -136,131 +150,157 @@ field_of h a v xs s name need (Typed (Object class)) is place this k =
       field = there ∙ ap (λ t. Some t) (sym (exact need o.0 (not_null a.program.classes o.0 (place.sound.fields class name o.0 there)) o.2));
     }
 
-member_law : (h : Home) (a : Around) (v : Visible) (xs : List core.Parameter) (s : Seen) (span : Span) (name : Name) (e : Expression) (length : Bool) → (length ≡ true → typing.meets AnArray s.typing ≡ true)
-    → Place h a v xs → Fits h a xs s e
-    → IsWanted h xs (if length then Typed Int else typing_of_field_in (holder_of a s) name) (if length then core.Length (elements_of s.typing) e span else core.Field e (class_at s.typing) name span)
-member_law h a v xs s span name e true array place fits need k =
+member_law : (h : Home) (speech : Speech) (a : Around) (v : Visible) (xs : List core.Parameter) (s : Seen) (span : Span) (name : Name) (e : Expression) (length : Bool) → (length ≡ true → typing.meets AnArray s.typing ≡ true)
+    → Place h a v xs → Fits h speech a xs s e
+    → IsWanted h speech xs (if length then Typed Int else typing_of_field_in (holder_of a s) name) (if length then core.Length (elements_of s.typing) e span else core.Field e (class_at s.typing) name span)
+member_law h speech a v xs s span name e true array place fits need k =
     let elements = array_wanted s.typing (array refl) in
     (fits.goes _ elements.1, elements.0, exact need Int refl k)
-member_law h a v xs s span name e false array place fits need k =
+member_law h speech a v xs s span name e false array place fits need k =
     let f = field_of h a v xs s name need s.typing refl place fits.this k in
-    let goes : IsOf h xs e (Object f.class) = fits.goes (Object f.class) (ap (typing.meets (Exactly (Object f.class))) f.object ∙ itself (Object f.class)) in
-    subst (λ (t : Typing). IsOf h xs (core.Field e (class_at t) name span) need) (sym f.object) (goes, place.declares.fields f.class name need f.field)
+    let goes : Says h speech xs e (Object f.class) = fits.goes (Object f.class) (ap (typing.meets (Exactly (Object f.class))) f.object ∙ itself (Object f.class)) in
+    subst (λ (t : Typing). Says h speech xs (core.Field e (class_at t) name span) need) (sym f.object) (goes, place.declares.fields f.class name need f.field)
+
+member_place : (s : Seen) (span : Span) (name : Name) (e : Expression) (length : Bool) → not length ≡ true → IsPlace (if length then core.Length (elements_of s.typing) e span else core.Field e (class_at s.typing) name span)
+member_place s span name e true k = absurd cc
+member_place s span name e false k = tt
 
 -- Operators
 
-abbrev IsInt : Home → List core.Parameter → Expression → Type 0
-IsInt h xs e = IsOf h xs e Int
+plain : (h : Home) (speech : Speech) (xs : List core.Parameter) (e : Expression) (need : PvType) → Says h speech xs e need → Says h speech xs (plainly e) need
+plain h speech xs (core.Compute manner core.Minus x y span) need k = k
+plain h speech xs (core.Compute manner core.Plus x y span) need k = k
+plain h speech xs (core.Compute manner core.Times x y span) need k = k
+plain h speech xs (core.Constant v) need k = k
+plain h speech xs core.This need k = k
+plain h speech xs core.Result need k = k
+plain h speech xs (core.Variable name) need k = k
+plain h speech xs (core.Field e class field span) need k = k
+plain h speech xs (core.Element type e i span) need k = k
+plain h speech xs (core.Length type e span) need k = k
+plain h speech xs (core.Not e) need k = k
+plain h speech xs (core.Compare c x y) need k = k
+plain h speech xs (core.Equal same x y) need k = k
+plain h speech xs (core.And x y) need k = k
+plain h speech xs (core.Or x y) need k = k
+plain h speech xs (core.Implies x y) need k = k
+plain h speech xs (core.Old e) need k = k
 
-plain : (h : Home) (xs : List core.Parameter) (e : Expression) (need : PvType) → IsOf h xs e need → IsOf h xs (plainly e) need
-plain h xs (core.Compute manner core.Minus x y span) need k = k
-plain h xs (core.Compute manner core.Plus x y span) need k = k
-plain h xs (core.Compute manner core.Times x y span) need k = k
-plain h xs (core.Constant v) need k = k
-plain h xs core.This need k = k
-plain h xs core.Result need k = k
-plain h xs (core.Variable name) need k = k
-plain h xs (core.Field e class field span) need k = k
-plain h xs (core.Element type e i span) need k = k
-plain h xs (core.Length type e span) need k = k
-plain h xs (core.Not e) need k = k
-plain h xs (core.Compare c x y) need k = k
-plain h xs (core.Equal same x y) need k = k
-plain h xs (core.And x y) need k = k
-plain h xs (core.Or x y) need k = k
-plain h xs (core.Implies x y) need k = k
-plain h xs (core.Old e) need k = k
+plain_if : (h : Home) (speech : Speech) (xs : List core.Parameter) (b : Bool) (e : Expression) (need : PvType) → Says h speech xs e need → Says h speech xs (if b then plainly e else e) need
+plain_if h speech xs true e need k = plain h speech xs e need k
+plain_if h speech xs false e need k = k
 
-plain_if : (h : Home) (xs : List core.Parameter) (b : Bool) (e : Expression) (need : PvType) → IsOf h xs e need → IsOf h xs (if b then plainly e else e) need
-plain_if h xs true e need k = plain h xs e need k
-plain_if h xs false e need k = k
-
-compare : (h : Home) (xs : List core.Parameter) (x y : Expression) (s t : Typing) (need : PvType) → IsWanted h xs s x → IsWanted h xs t y
+compare : (h : Home) (speech : Speech) (xs : List core.Parameter) (x y : Expression) (s t : Typing) (need : PvType) → IsWanted h speech xs s x → IsWanted h speech xs t y
     → typing.meets (Exactly need) (typing.typed_if (typing.both_meet (Exactly Int) s t) Truth) ≡ true
-    → IsOf h xs (compared y x) Int × IsOf h xs (compared x y) Int × (need ≡ Truth)
-compare h xs x y s t need f g k =
+    → Says h speech xs (compared y x) Int × Says h speech xs (compared x y) Int × (need ≡ Truth)
+compare h speech xs x y s t need f g k =
     let two = typed_if_wanted (typing.both_meet (Exactly Int) s t) Truth need refl k in
     let parts = and_parts _ _ two.0 in
-    (plain_if h xs (is_literal y) x Int (f Int parts.0), plain_if h xs (is_literal x) y Int (g Int parts.1), two.1)
+    (plain_if h speech xs (is_literal y) x Int (f Int parts.0), plain_if h speech xs (is_literal x) y Int (g Int parts.1), two.1)
 
-compute : (h : Home) (xs : List core.Parameter) (x y : Expression) (s t : Typing) (type need : PvType) → typing.is_null type ≡ false → (operand : PvType) → IsWanted h xs s x → IsWanted h xs t y
-    → typing.meets (Exactly need) (typing.typed_if (typing.both_meet (Exactly operand) s t) type) ≡ true → IsOf h xs x operand × IsOf h xs y operand × (need ≡ type)
-compute h xs x y s t type need n operand f g k =
+compute : (h : Home) (speech : Speech) (xs : List core.Parameter) (x y : Expression) (s t : Typing) (type need : PvType) → typing.is_null type ≡ false → (operand : PvType) → IsWanted h speech xs s x → IsWanted h speech xs t y
+    → typing.meets (Exactly need) (typing.typed_if (typing.both_meet (Exactly operand) s t) type) ≡ true → Says h speech xs x operand × Says h speech xs y operand × (need ≡ type)
+compute h speech xs x y s t type need n operand f g k =
     let two = typed_if_wanted (typing.both_meet (Exactly operand) s t) type need n k in
     let parts = and_parts _ _ two.0 in
     (f operand parts.0, g operand parts.1, two.1)
 
-equate : (h : Home) (xs : List core.Parameter) (same : Bool) (x y : Expression) (s t : Typing) (need : PvType) → IsWanted h xs s x → IsWanted h xs t y
-    → typing.meets (Exactly need) (typing.typing_of_equality s t) ≡ true → IsOf h xs (core.Equal same (compared y x) (compared x y)) need
-equate h xs same x y s t need f g k =
+equate : (h : Home) (speech : Speech) (xs : List core.Parameter) (same : Bool) (x y : Expression) (s t : Typing) (need : PvType) → IsWanted h speech xs s x → IsWanted h speech xs t y
+    → typing.meets (Exactly need) (typing.typing_of_equality s t) ≡ true → Says h speech xs (core.Equal same (compared y x) (compared x y)) need
+equate h speech xs same x y s t need f g k =
     let both = equality_wanted s t need k in
-    (both.type, plain_if h xs (is_literal y) x both.type (f both.type both.left), plain_if h xs (is_literal x) y both.type (g both.type both.right), both.truth)
+    (both.type, plain_if h speech xs (is_literal y) x both.type (f both.type both.left), plain_if h speech xs (is_literal x) y both.type (g both.type both.right), both.truth)
 
-operation_law : (h : Home) (xs : List core.Parameter) (o : Operator) (span : Span) (x y : Expression) (s t : Typing) → IsWanted h xs s x → IsWanted h xs t y
-    → IsWanted h xs (typing.typing_of_operator o s t) (operation o span x y)
-operation_law h xs op.Add span x y s t f g need k = compute h xs x y s t Int need refl Int f g k
-operation_law h xs op.Sub span x y s t f g need k = compute h xs x y s t Int need refl Int f g k
-operation_law h xs op.Mul span x y s t f g need k = compute h xs x y s t Int need refl Int f g k
-operation_law h xs op.Eq span x y s t f g need k = equate h xs true x y s t need f g k
-operation_law h xs op.Ne span x y s t f g need k = equate h xs false x y s t need f g k
-operation_law h xs op.Lt span x y s t f g need k = compare h xs x y s t need f g k
-operation_law h xs op.Le span x y s t f g need k = compare h xs x y s t need f g k
-operation_law h xs op.Gt span x y s t f g need k = compare h xs x y s t need f g k
-operation_law h xs op.Ge span x y s t f g need k = compare h xs x y s t need f g k
-operation_law h xs op.And span x y s t f g need k = compute h xs x y s t Truth need refl Truth f g k
-operation_law h xs op.Or span x y s t f g need k = compute h xs x y s t Truth need refl Truth f g k
-operation_law h xs op.Implies span x y s t f g need k = compute h xs x y s t Truth need refl Truth f g k
-operation_law h xs op.Star span x y s t f g need k = compute h xs x y s t Truth need refl Truth f g k
+operation_law : (h : Home) (speech : Speech) (xs : List core.Parameter) (o : Operator) (span : Span) (x y : Expression) (s t : Typing) → IsWanted h speech xs s x → IsWanted h speech xs t y
+    → IsWanted h speech xs (typing.typing_of_operator o s t) (operation o span x y)
+operation_law h speech xs op.Add span x y s t f g need k = compute h speech xs x y s t Int need refl Int f g k
+operation_law h speech xs op.Sub span x y s t f g need k = compute h speech xs x y s t Int need refl Int f g k
+operation_law h speech xs op.Mul span x y s t f g need k = compute h speech xs x y s t Int need refl Int f g k
+operation_law h speech xs op.Eq span x y s t f g need k = equate h speech xs true x y s t need f g k
+operation_law h speech xs op.Ne span x y s t f g need k = equate h speech xs false x y s t need f g k
+operation_law h speech xs op.Lt span x y s t f g need k = compare h speech xs x y s t need f g k
+operation_law h speech xs op.Le span x y s t f g need k = compare h speech xs x y s t need f g k
+operation_law h speech xs op.Gt span x y s t f g need k = compare h speech xs x y s t need f g k
+operation_law h speech xs op.Ge span x y s t f g need k = compare h speech xs x y s t need f g k
+operation_law h speech xs op.And span x y s t f g need k = compute h speech xs x y s t Truth need refl Truth f g k
+operation_law h speech xs op.Or span x y s t f g need k = compute h speech xs x y s t Truth need refl Truth f g k
+operation_law h speech xs op.Implies span x y s t f g need k = compute h speech xs x y s t Truth need refl Truth f g k
+operation_law h speech xs op.Star span x y s t f g need k = compute h speech xs x y s t Truth need refl Truth f g k
 
-negation_law : (h : Home) (xs : List core.Parameter) (written : Option ℕ) (span : Span) (x : Expression) (need : PvType) → IsOf h xs x Int → need ≡ Int → IsOf h xs (negation written span x) need
-negation_law h xs None span x need f same = (refl, f, same)
-negation_law h xs (Some n) span x need f same = same
+negation_law : (h : Home) (speech : Speech) (xs : List core.Parameter) (written : Option ℕ) (span : Span) (x : Expression) (need : PvType) → Says h speech xs x Int → need ≡ Int → Says h speech xs (negation written span x) need
+negation_law h speech xs None span x need f same = (refl, f, same)
+negation_law h speech xs (Some n) span x need f same = same
+
+-- What a method's end and old states are
+
+result_wanted : (h : Home) (speech : Speech) (a : Around) (v : Visible) (xs : List core.Parameter) (o : Option PvType) → a.result ≡ o → Place h a v xs → speech.result ≡ a.result → IsWanted h speech xs (typing.typing_or Untyped o) core.Result
+result_wanted h speech a v xs None is place same need k = absurd cc
+result_wanted h speech a v xs (Some type) is place same need k = same ∙ is ∙ ap (λ t. Some t) (sym (exact need type (not_null a.program.classes type (place.sound.result type is)) k))
+
+old_wanted : (t : Typing) (need : PvType) → typing.meets (Exactly need) (typing.typing_of_old t) ≡ true → typing.meets (Exactly need) t ≡ true
+old_wanted (Typed type) need k = k
+old_wanted Unsettled need k = absurd cc
+old_wanted Untyped need k = absurd cc
+
+old_allowed : (old local : Bool) → (not old || local) ≡ false → old ≡ true
+old_allowed true local k = refl
+old_allowed false local k = absurd cc
 
 -- The induction
 
-no_resource : (c : Context) (span : Span) → IsPure c → Clean (not_pure c span) → ⊥
-no_resource c span pure clean = both_ways c.pure (if_fails c.pure rule.NotPure span clean) pure.pure
+never : {A : Type 0} → false ≡ true → A
+never k = absurd cc
 
 layer_law : (y : ExprKind-F Kinds Eaches Exprs) → LayerLaw (layer_of (without y))
-layer_law (ExprKind-F.Number n) = λ h a v xs span c place pure clean none. other_part (λ need k. exact need Int refl k)
-layer_law (ExprKind-F.Truth b) = λ h a v xs span c place pure clean none. other_part (λ need k. exact need Truth refl k)
-layer_law ExprKind-F.Null = λ h a v xs span c place pure clean none. other_part (λ need k. null_wanted need k)
-layer_law ExprKind-F.This = λ h a v xs span c place pure clean none. record { this = λ i. refl; goes = λ need k. exact need (Object a.class) refl k ∙ ap Object place.class }
-layer_law ExprKind-F.Result = λ h a v xs span c place pure clean none. absurd (both_ways c.result pure.result (unless_holds c.result rule.ResultPlace span clean))
-layer_law (ExprKind-F.Var w) = λ h a v xs span c place pure clean none. name_law h a v xs span w.name (variable_named v w.name) refl place
-layer_law (ExprKind-F.Field e w) = λ h a v xs span c place pure clean none.
+layer_law (ExprKind-F.Number n) = λ h speech a v xs span c place speaks clean pure. other_part (λ need k. exact need Int refl k)
+layer_law (ExprKind-F.Truth b) = λ h speech a v xs span c place speaks clean pure. other_part (λ need k. exact need Truth refl k)
+layer_law ExprKind-F.Null = λ h speech a v xs span c place speaks clean pure. other_part (λ need k. null_wanted need k)
+layer_law ExprKind-F.This = λ h speech a v xs span c place speaks clean pure.
+    record { this = λ i. refl; goes = λ need k. exact need (Object a.class) refl k ∙ ap Object place.class; place = λ i. absurd cc }
+layer_law ExprKind-F.Result = λ h speech a v xs span c place speaks clean pure.
+    other_part (result_wanted h speech a v xs a.result refl place (speaks.result (unless_holds c.result rule.ResultPlace span clean)))
+layer_law (ExprKind-F.Var w) = λ h speech a v xs span c place speaks clean pure. name_law h speech a v xs span w.name (variable_named v w.name) refl place
+layer_law (ExprKind-F.Field e w) = λ h speech a v xs span c place speaks clean pure.
     let s : Seen = (piece_of e.0).part.seen a v in
-    other_part (member_law h a v xs s span w.name ((piece_of e.0).expression a v) (is_array_length a w.name s.typing) (λ b. (and_parts (typing.meets AnArray s.typing) _ b).0)
-    place (e.1 h a v xs c (need_of_target a w.name) place pure clean.0 none))
-layer_law (ExprKind-F.Index e i) = λ h a v xs span c place pure clean none.
-    let f = e.1 h a v xs c AnArray place pure clean.0 (no_first (piece_of e.0).shape.quantifiers (piece_of i.0).shape.quantifiers none) in
-    let g = i.1 h a v xs c (Exactly Int) place pure clean.1 (no_second (piece_of e.0).shape.quantifiers (piece_of i.0).shape.quantifiers none) in
-    other_part (λ need k.
+    place_part (member_law h speech a v xs s span w.name ((piece_of e.0).expression a v) (is_array_length a w.name s.typing) (λ b. (and_parts (typing.meets AnArray s.typing) _ b).0)
+    place (e.1 h speech a v xs c (need_of_target a w.name) place speaks clean.0 pure))
+    (member_place s span w.name ((piece_of e.0).expression a v) (is_array_length a w.name s.typing))
+layer_law (ExprKind-F.Index e i) = λ h speech a v xs span c place speaks clean pure.
+    let both = and_parts _ _ pure in
+    let f = e.1 h speech a v xs c AnArray place speaks clean.0 both.0 in
+    let g = i.1 h speech a v xs c (Exactly Int) place speaks clean.1 both.1 in
+    place_part (λ need k.
     let two = element_wanted (typing_in (piece_of e.0).part a v) (typing_in (piece_of i.0).part a v) need k in
-    (f.goes _ two.0.1, g.goes Int two.1, two.0.0, two.2))
-layer_law (ExprKind-F.Not e) = λ h a v xs span c place pure clean none.
-    let f = e.1 h a v xs (typing.purely c) (Exactly Truth) place (purely_pure c pure) clean none in
+    (f.goes _ two.0.1, g.goes Int two.1, two.0.0, two.2)) (λ i. tt)
+layer_law (ExprKind-F.Not e) = λ h speech a v xs span c place speaks clean pure.
+    let f = e.1 h speech a v xs (typing.purely c) (Exactly Truth) place (speaks_purely speaks) clean pure in
     other_part (λ need k. let two = typed_if_wanted _ Truth need refl k in (f.goes Truth two.0, two.1))
-layer_law (ExprKind-F.Minus e) = λ h a v xs span c place pure clean none.
-    let f = e.1 h a v xs c (Exactly Int) place pure clean none in
-    other_part (λ need k. let two = typed_if_wanted _ Int need refl k in negation_law h xs (piece_of e.0).written span ((piece_of e.0).expression a v) need (f.goes Int two.0) two.1)
-layer_law (ExprKind-F.Binary o x y) = λ h a v xs span c place pure clean none.
-    let f = x.1 h a v xs (typing.under_left o c) (typing.need_of_operator o) place (left_pure o c pure) clean.0 (no_first (piece_of x.0).shape.quantifiers (piece_of y.0).shape.quantifiers none) in
-    let g = y.1 h a v xs (typing.under_right o c) (typing.need_of_operator o) place (right_pure o c pure) clean.1 (no_second (piece_of x.0).shape.quantifiers (piece_of y.0).shape.quantifiers none) in
-    other_part (operation_law h xs o span ((piece_of x.0).expression a v) ((piece_of y.0).expression a v) (typing_in (piece_of x.0).part a v) (typing_in (piece_of y.0).part a v) f.goes g.goes)
-layer_law (ExprKind-F.Old e) = λ h a v xs span c place pure clean none.
-    absurd (both_ways (not c.old || names_local (piece_of e.0).part a v) (if_fails _ rule.OldPlace span clean.1) (or_left (not c.old) _ (not_from_false c.old pure.old)))
-layer_law (ExprKind-F.Perm e part whole amount) = λ h a v xs span c place pure clean none. absurd (no_resource c span pure clean.0)
-layer_law (ExprKind-F.Token t e) = λ h a v xs span c place pure clean none. absurd (no_resource c span pure clean.0)
-layer_law (ExprKind-F.Instance None w es) = λ h a v xs span c place pure clean none. absurd (no_resource c span pure clean.0)
-layer_law (ExprKind-F.Instance (Some e) w es) = λ h a v xs span c place pure clean none. absurd (no_resource c span pure clean.0)
-layer_law (ExprKind-F.Each q) = λ h a v xs span c place pure clean none. absurd (let no : QuantifierShape span ∷ [] ≡ [] = none in cc)
+layer_law (ExprKind-F.Minus e) = λ h speech a v xs span c place speaks clean pure.
+    let f = e.1 h speech a v xs c (Exactly Int) place speaks clean pure in
+    other_part (λ need k. let two = typed_if_wanted _ Int need refl k in negation_law h speech xs (piece_of e.0).written span ((piece_of e.0).expression a v) need (f.goes Int two.0) two.1)
+layer_law (ExprKind-F.Binary o x y) = λ h speech a v xs span c place speaks clean pure.
+    let both = and_parts _ _ pure in
+    let f = x.1 h speech a v xs (typing.under_left o c) (typing.need_of_operator o) place (speaks_left o speaks) clean.0 both.0 in
+    let g = y.1 h speech a v xs (typing.under_right o c) (typing.need_of_operator o) place (speaks_right o speaks) clean.1 both.1 in
+    other_part (operation_law h speech xs o span ((piece_of x.0).expression a v) ((piece_of y.0).expression a v) (typing_in (piece_of x.0).part a v) (typing_in (piece_of y.0).part a v) f.goes g.goes)
+layer_law (ExprKind-F.Old e) = λ h speech a v xs span c place speaks clean pure.
+    let f = e.1 h speech a v xs (typing.purely c) Anything place (speaks_purely speaks) clean.0 pure in
+    let allowed : c.old ≡ true = old_allowed c.old (names_local (piece_of e.0).part a v) (if_fails _ rule.OldPlace span clean.1) in
+    other_part (λ need k. (speaks.old allowed, f.goes need (old_wanted (typing_in (piece_of e.0).part a v) need k)))
+layer_law (ExprKind-F.Perm e part whole amount) = λ h speech a v xs span c place speaks clean pure. never pure
+layer_law (ExprKind-F.Token t e) = λ h speech a v xs span c place speaks clean pure. never pure
+layer_law (ExprKind-F.Instance None w es) = λ h speech a v xs span c place speaks clean pure. never pure
+layer_law (ExprKind-F.Instance (Some e) w es) = λ h speech a v xs span c place speaks clean pure. never pure
+layer_law (ExprKind-F.Each q) = λ h speech a v xs span c place speaks clean pure. never (sym (q.1 0) ∙ pure)
 
 kind_step : (x : ExprKind-F ExprKind Each Expr) (y : ExprKind-F Kinds Eaches Exprs) → without y ≡ x → KindLaw (piece_of_kind (roll-ExprKind x))
 kind_step x y is = subst KindLaw (sym (kind_at_roll x)) (subst (λ (z : ExprKind-F ExprKind Each Expr). LayerLaw (layer_of z)) is (layer_law y))
 
+pub each_step : (x : Each-F ExprKind Each Expr) → EachLaw (piece_of_each (roll-Each x))
+each_step x = subst EachLaw (sym (each_at_roll x)) (λ n. refl)
+
 expr_law : (span : Span) (k : KindPiece) → KindLaw k → ExprLaw (piece_in_expr (record { span = span; kind = k }))
-expr_law span k law = λ h a v xs c need place pure clean none. law h a v xs span c place pure clean.0 none
+expr_law span k law = λ h speech a v xs c need place speaks clean pure. law h speech a v xs span c place speaks clean.0 pure
 
 expr_step : (x : Expr-F ExprKind Each Expr) (y : Expr-F Kinds Eaches Exprs) → map-Expr Kinds Eaches Exprs ExprKind Each Expr (λ e. e.0) (λ e. e.0) (λ e. e.0) y ≡ x → ExprLaw (piece_of (roll-Expr x))
 expr_step x y is =
@@ -269,4 +309,4 @@ expr_step x y is =
     (expr_law y.span (piece_of_kind y.kind.0) y.kind.1))
 
 pub expression_law : (e : Expr) → ExprLaw (piece_of e)
-expression_law = ind-Expr (λ k. KindLaw (piece_of_kind k)) (λ q. Unit {0}) (λ e. ExprLaw (piece_of e)) kind_step (λ x y is. tt) expr_step
+expression_law = ind-Expr (λ k. KindLaw (piece_of_kind k)) (λ q. EachLaw (piece_of_each q)) (λ e. ExprLaw (piece_of e)) kind_step (λ x y is. each_step x) expr_step

@@ -1,6 +1,8 @@
 -- What a well formed program becomes is well typed.
 use Rattle.std.proofs.Common.{◌≡◌, ℕ, ◌+◌, Bool, true, false, not, ◌&&◌, Option, Some, None, is_some, option_map, unwrap_or, List, [], ◌∷◌, map, refl, sym, ◌∙◌, ap, subst}
-use Rattle.std.proofs.lemmas.Bool.{or_left, or_right}
+use Rattle.std.proofs.lemmas.Bool.{or_left, or_right, eqb-true, eq-eqb}
+use Rattle.std.specs.Prelude.{nat_eq, if◌then◌else◌}
+use Rattle.std.specs.List.{filter_map}
 use Rattle.pv_base.specs.declared.Name.{Name}
 use Rattle.pv_base.specs.declared.Span.{Span}
 use Rattle.pv_ast.specs.declared.TypeWord.{TypeWord}
@@ -11,6 +13,9 @@ use Rattle.pv_ast.specs.declared.Stmt.{Stmt}
 use Rattle.pv_ast.specs.declared.StmtKind.{StmtKind, StmtKind-F, out-StmtKind}
 use Rattle.pv_ast.specs.declared.Method.{Method}
 use Rattle.pv_ast.specs.declared.RunMethod.{RunMethod}
+use Rattle.pv_ast.specs.declared.Predicate.{Predicate}
+use Rattle.pv_ast.specs.declared.Member.{Member}
+use Rattle.pv_ast.specs.declared.Member.TheVariants as member
 use Rattle.pv_ast.specs.declared.Class.{Class}
 use Rattle.pv_ast.specs.declared.Program.{Program}
 use Rattle.pv_rules.specs.declared.fault.Rule.TheVariants as rule
@@ -21,25 +26,29 @@ use Rattle.pv_rules.specs.Scoping.{Visible, nothing_visible}
 use Rattle.pv_rules.specs.Parts as parts
 use Rattle.pv_rules.specs.Parts.{Around, members_of, type_of_field}
 use Rattle.pv_rules.specs.Shapes as shapes
-use Rattle.pv_rules.specs.Statements.{StmtPart, option_type, faults_of_body, parts_of_block, is_nothing}
+use Rattle.pv_rules.specs.Statements.{StmtPart, option_type, faults_of_body, parts_of_block, is_nothing, is_loop, no_messages}
 use Rattle.pv_rules.specs.Programs.{in_class, at_body, is_value_return, ends_with_value, faults_of_program}
 use Rattle.pv_rules.specs.WellFormed.{IsWellFormed}
 use Rattle.pv_meaning.specs.Core.{Block}
 use Rattle.pv_meaning.specs.Core as core
-use Rattle.pv_picks.specs.Names.{parameters_of}
+use Rattle.pv_meaning.specs.Members as members
+use Rattle.pv_meaning.specs.Members.{first_that, predicate_of}
+use Rattle.pv_picks.specs.Names.{no_name, parameters_of}
 use Rattle.pv_picks.specs.Statements.{StmtPiece, Site, at, block_from, outermost, core_of_body, piece_in_stmt_kind, piece_of_stmt}
-use Rattle.pv_picks.specs.Programs.{core_of, in_method, parameters_in_scope, core_of_method, core_of_run}
+use Rattle.pv_picks.specs.Programs.{core_of, in_method, parameters_in_scope, core_of_class, core_of_member, core_of_method, core_of_run, core_of_predicate}
 use Rattle.pv_picks.proofs.Clean.{Clean, clean_from, if_fails}
-use Rattle.pv_picks.proofs.Mirrors.{first_run, core_mirrors, method_at, run_at, method_found, run_found}
+use Rattle.pv_picks.proofs.Mirrors.{first_run, class_found, core_mirrors, method_at, run_at, method_found, run_found}
 use Rattle.pv_picks.proofs.Sound.{Sound}
 use Rattle.pv_picks.proofs.StmtLayers.{layer_of, kind_rolled, stmt_rolled, parts_in_pieces}
 use Rattle.pv_picks.proofs.Whole.{sound_class, sound_params, sound_result, result_declared}
-use Rattle.typed_programs.specs.Expressions.{Home}
-use Rattle.typed_programs.specs.Blocks.{types_of, gives_statement, gives, BlockFits, ends, home_of, over, MethodFits, ProgramFits}
+use Rattle.typed_programs.specs.Expressions.{Home, Speech}
+use Rattle.typed_programs.specs.Blocks.{types_of, gives_statement, gives, home_of, over, MethodFits, ProgramFits}
 use Rattle.typing_laws.proofs.Scopes.{nothing_listed, params_listed}
-use Rattle.typing_laws.proofs.Places.{Declares, IsMethodThere, Place}
+use Rattle.typing_laws.proofs.Places.{Declares, IsMethodThere, IsPredicateThere, Place}
 use Rattle.typing_laws.proofs.Expressions.{no_first, no_second}
-use Rattle.typing_laws.proofs.Statements.{Returns, statement_law}
+use Rattle.typing_laws.specs.Formulas.{midway, BlockSays}
+use Rattle.typing_laws.proofs.Standing.{At, InBlocks, outermost_blocks}
+use Rattle.typing_laws.proofs.Statements.{Returns, statement_law, says_fits}
 use Rattle.typing_laws.proofs.Members.{found_of, found_name, IsClean, classes_clean, IsCleanMethod, methods_clean, IsCleanRun, run_clean}
 
 -- What a program declares
@@ -57,6 +66,39 @@ method_there p (Some c) class name m there is = record {
   result = refl;
 }
 
+-- a predicate of the name
+found_map : {A B : Type 0} (f : A → B) (b c : Bool) (x : A) (o : Option A) (q : Option B) (y : A) → b ≡ c → (o ≡ Some y → q ≡ Some (f y)) → (if c then Some x else o) ≡ Some y → (if b then Some (f x) else q) ≡ Some (f y)
+found_map f true true x o q y same h k = let is : x ≡ y = cc in ap (λ z. Some (f z)) is
+found_map f false false x o q y same h k = h k
+found_map f true false x o q y same h k = absurd cc
+found_map f false true x o q y same h k = absurd cc
+
+same_truth : (a b : Bool) → (a ≡ true → b ≡ true) → (b ≡ true → a ≡ true) → a ≡ b
+same_truth true b h k = sym (h refl)
+same_truth false true h k = k refl
+same_truth false false h k = refl
+
+either_way : (m n : ℕ) → nat_eq m n ≡ nat_eq n m
+either_way m n = same_truth (nat_eq m n) (nat_eq n m) (λ h. eq-eqb n m (sym (eqb-true m n h))) (λ h. eq-eqb m n (sym (eqb-true n m h)))
+
+predicate_among : (a : Around) (name : Name) (ms : List Member) (q : Predicate) → rules.predicate_named ms name ≡ Some q
+    → first_that (λ (q : core.Predicate). nat_eq q.name.0 name.0) (filter_map predicate_of (map (core_of_member a) ms)) ≡ Some (core_of_predicate a q)
+predicate_among a name [] q is = absurd cc
+predicate_among a name (member.Field f ∷ ms) q is = predicate_among a name ms q is
+predicate_among a name (member.Predicate x ∷ ms) q is =
+    found_map (core_of_predicate a) (nat_eq x.name.name.0 name.0) (nat_eq name.0 x.name.name.0) x (rules.predicate_named ms name) _ q (either_way x.name.name.0 name.0) (λ k. predicate_among a name ms q k) is
+predicate_among a name (member.Method m ∷ ms) q is = predicate_among a name ms q is
+predicate_among a name (member.Run r ∷ ms) q is = predicate_among a name ms q is
+
+predicate_there : (p : Program) (o : Option Class) (class name : Name) (q : Predicate) → class_named p.classes class ≡ o → rules.predicate_named (members_of o) name ≡ Some q → IsPredicateThere (core_of p) class name q
+predicate_there p None class name q there is = absurd cc
+predicate_there p (Some c) class name q there is = record {
+  there = core_of_predicate (in_class p c) q;
+  found = ap (λ c. first_that (λ (q : core.Predicate). nat_eq q.name.0 name.0) (filter_map predicate_of (members.members_of c))) (class_found p class ∙ ap (option_map (core_of_class p)) there)
+      ∙ predicate_among (in_class p c) name c.members q is;
+  types = same_types q.params;
+}
+
 method_result : (p : Program) (o : Option Class) (class name : Name) (m : Method) (type : PvType) → ((c : Class) → o ≡ Some c → IsClean p c) → rules.method_named (members_of o) name ≡ Some m → option_type m.result ≡ Some type
     → is_declared_type p.classes type ≡ true
 method_result p None class name m type clean is result = absurd cc
@@ -70,23 +112,25 @@ declares : (p : Program) → ((class : Name) (c : Class) → class_named p.class
 declares p clean = record {
   fields = λ class field type is. (core_mirrors p).fields class field ∙ is;
   methods = λ class name m is. method_there p (class_named p.classes class) class name m refl is;
+  predicates = λ class name q is. predicate_there p (class_named p.classes class) class name q refl is;
   results = λ class name m type is result. method_result p (class_named p.classes class) class name m type (clean class) is result;
 }
 
 -- Bodies
 
-body_law : (ss : List Stmt) (n : ℕ) (h : Home) (a : Around) (v : Visible) (xs : List core.Parameter) (spot : Spot) (site : Site) (around : shapes.Around) → Place h a v xs → ((there : Spot) → Returns h a there)
-    → Clean (faults_of_body (map (λ s. s.part) (map piece_of_stmt ss)) a v spot) → shapes.faults_of_block ss around ≡ [] → BlockFits h xs (block_from n (map piece_of_stmt ss) a v site)
-body_law [] n h a v xs spot site around place returns clean none = ends
-body_law (s ∷ ss) n h a v xs spot site around place returns clean none =
+body_law : (ss : List Stmt) (n : ℕ) (h : Home) (speech : Speech) (a : Around) (v : Visible) (xs head : List core.Parameter) (spot : Spot) (site : Site) (around : shapes.Around) → (is_loop spot.surround ≡ true → ⊥) → Place h a v xs
+    → At h speech a v xs head spot site around → ((there : Spot) → Returns h a there) → Clean (faults_of_body (map (λ s. s.part) (map piece_of_stmt ss)) a v spot) → shapes.faults_of_block ss around ≡ []
+    → BlockSays h speech head xs (block_from n (map piece_of_stmt ss) a v site)
+body_law [] n h speech a v xs head spot site around no_loop place stands returns clean none = tt
+body_law (s ∷ ss) n h speech a v xs head spot site around no_loop place stands returns clean none =
     let there : Spot = record spot { last = is_nothing (map (λ s. s.part) (map piece_of_stmt ss)) } in
-    statement_law s h a v xs there (at n site) around place (returns there) clean.0 (no_first (shapes.faults_of_stmt s around) (shapes.faults_of_block ss around) none) _
-    (λ ys further. body_law ss (n + 1) h a ((piece_of_stmt s).part.behind v) ys spot site around further returns clean.1 (no_second (shapes.faults_of_stmt s around) (shapes.faults_of_block ss around) none))
+    statement_law s h speech a v xs head there (at n site) around place stands no_messages (λ k. absurd (no_loop k)) (returns there) clean.0 (no_first (shapes.faults_of_stmt s around) (shapes.faults_of_block ss around) none) _
+    (λ ys further standing. body_law ss (n + 1) h speech a ((piece_of_stmt s).part.behind v) ys head spot site around no_loop further standing returns clean.1 (no_second (shapes.faults_of_stmt s around) (shapes.faults_of_block ss around) none))
 
-whole_body : (ss : List Stmt) (h : Home) (a : Around) (v : Visible) (xs : List core.Parameter) (method : Bool) → Place h a v xs → ((there : Spot) → Returns h a there) → Clean (faults_of_body (parts_of_block ss) a v (at_body method))
-    → shapes.faults_of_block ss shapes.outside ≡ [] → BlockFits h xs (core_of_body a v ss)
-whole_body ss h a v xs method place returns clean none =
-    body_law ss 0 h a v xs (at_body method) (outermost v) shapes.outside place returns
+whole_body : (ss : List Stmt) (h : Home) (speech : Speech) (a : Around) (v : Visible) (xs : List core.Parameter) (method : Bool) → Place h a v xs → InBlocks v xs no_name shapes.outside → ((method && true) ≡ true → speech.old ≡ true)
+    → ((there : Spot) → Returns h a there) → Clean (faults_of_body (parts_of_block ss) a v (at_body method)) → shapes.faults_of_block ss shapes.outside ≡ [] → BlockSays h speech xs xs (core_of_body a v ss)
+whole_body ss h speech a v xs method place blocks old returns clean none =
+    body_law ss 0 h speech a v xs xs (at_body method) (outermost v) shapes.outside (λ k. cc) place (record { old = old; blocks = blocks; loop = λ k. absurd cc; told = λ k. absurd cc }) returns
     (subst (λ (ps : List StmtPart). Clean (faults_of_body ps a v (at_body method))) (sym (parts_in_pieces ss)) clean) none
 
 -- a body whose last statement gives a value gives one
@@ -144,31 +188,46 @@ pub record ClassAt (p : Program) (class : Name) (c : Class) : Type 0 where
   pub sound : Sound (core_of p) (in_class p c) nothing_visible
   pub declares : Declares p (core_of p)
 
-method_fits : (p : Program) (class : Name) (c : Class) (m : Method) → ClassAt p class c → IsCleanMethod (in_class p c) m → MethodFits (core_of p) class (core_of_method (in_class p c) m)
-method_fits p class c m at f =
+-- where the contract and the body of a method stand, and those of a `run`
+pub method_place : (p : Program) (class : Name) (c : Class) (m : Method) (answer : Option PvType) → ClassAt p class c → IsCleanMethod (in_class p c) m
+    → Place (record { program = core_of p; class = class; answer = answer }) (in_method (in_class p c) m) (parameters_in_scope m) (over [] (parameters_of m.params))
+method_place p class c m answer at f =
     let a : Around = in_method (in_class p c) m in
-    let h : Home = home_of (core_of p) class (core_of_method (in_class p c) m) in
-    let place : Place h a (parameters_in_scope m) (over [] (parameters_of m.params)) = record {
+    record {
       sound = sound_params (core_of p) a nothing_visible m.params (sound_result (core_of p) (in_class p c) nothing_visible m.result at.sound f.0.0) f.0.1.0;
       declares = at.declares;
       class = sym at.name;
       listed = params_listed a nothing_visible [] m.params f.0.1.0 nothing_listed;
-    } in
-    record {
-      body = whole_body m.body h a (parameters_in_scope m) (over [] (parameters_of m.params)) true place
-          (λ there last type is. ap (λ o. Some (unwrap_or o Null)) is) f.0.1.1.1.0 (no_second (shapes.faults_of_contract m.contract) _ f.1);
-      result = λ type is. body_gives m.body 0 a (parameters_in_scope m) (outermost (parameters_in_scope m))
-          (not_false (is_some m.result) (ends_with_value m.body) (has_result m.result type is) (if_fails _ rule.NoReturn m.name.span f.0.1.1.1.1));
     }
 
-run_fits : (p : Program) (class : Name) (c : Class) (r : RunMethod) → ClassAt p class c → IsCleanRun (in_class p c) r → MethodFits (core_of p) class (core_of_run (in_class p c) r)
-run_fits p class c r at f =
+pub class_place : (p : Program) (class : Name) (c : Class) (answer : Option PvType) → ClassAt p class c → Place (record { program = core_of p; class = class; answer = answer }) (in_class p c) nothing_visible []
+class_place p class c answer at = record { sound = at.sound; declares = at.declares; class = sym at.name; listed = nothing_listed }
+
+pub method_says : (p : Program) (class : Name) (c : Class) (m : Method) → ClassAt p class c → IsCleanMethod (in_class p c) m → (let there : core.Method = core_of_method (in_class p c) m in
+    BlockSays (home_of (core_of p) class there) (midway there) (over [] there.parameters) (over [] there.parameters) there.body)
+method_says p class c m at f =
+    let a : Around = in_method (in_class p c) m in
+    let h : Home = home_of (core_of p) class (core_of_method (in_class p c) m) in
+    whole_body m.body h (midway (core_of_method (in_class p c) m)) a (parameters_in_scope m) (over [] (parameters_of m.params)) true (method_place p class c m h.answer at f)
+    (outermost_blocks a m.params (over [] (parameters_of m.params)) no_name shapes.outside f.0.1.0) (λ k. refl)
+    (λ there last type is. ap (λ o. Some (unwrap_or o Null)) is) f.0.1.1.1.0 (no_second (shapes.faults_of_contract m.contract) _ f.1)
+
+method_fits : (p : Program) (class : Name) (c : Class) (m : Method) → ClassAt p class c → IsCleanMethod (in_class p c) m → MethodFits (core_of p) class (core_of_method (in_class p c) m)
+method_fits p class c m at f = record {
+  body = says_fits _ _ _ _ _ (method_says p class c m at f);
+  result = λ type is. body_gives m.body 0 (in_method (in_class p c) m) (parameters_in_scope m) (outermost (parameters_in_scope m))
+      (not_false (is_some m.result) (ends_with_value m.body) (has_result m.result type is) (if_fails _ rule.NoReturn m.name.span f.0.1.1.1.1));
+}
+
+pub run_says : (p : Program) (class : Name) (c : Class) (r : RunMethod) → ClassAt p class c → IsCleanRun (in_class p c) r → (let there : core.Method = core_of_run (in_class p c) r in
+    BlockSays (home_of (core_of p) class there) (midway there) [] [] there.body)
+run_says p class c r at f =
     let h : Home = home_of (core_of p) class (core_of_run (in_class p c) r) in
-    let place : Place h (in_class p c) nothing_visible [] = record { sound = at.sound; declares = at.declares; class = sym at.name; listed = nothing_listed } in
-    record {
-      body = whole_body r.body h (in_class p c) nothing_visible [] false place (λ there last type is. absurd (no_type type is)) f.0.1 (no_second (shapes.faults_of_contract r.contract) _ f.1);
-      result = λ type is. absurd (no_type type is);
-    }
+    whole_body r.body h (midway (core_of_run (in_class p c) r)) (in_class p c) nothing_visible [] false (class_place p class c h.answer at) (outermost_blocks (in_class p c) [] [] no_name shapes.outside tt) (λ k. absurd cc)
+    (λ there last type is. absurd (no_type type is)) f.0.1 (no_second (shapes.faults_of_contract r.contract) _ f.1)
+
+run_fits : (p : Program) (class : Name) (c : Class) (r : RunMethod) → ClassAt p class c → IsCleanRun (in_class p c) r → MethodFits (core_of p) class (core_of_run (in_class p c) r)
+run_fits p class c r at f = record { body = says_fits _ _ _ _ _ (run_says p class c r at f); result = λ type is. absurd (no_type type is) }
 
 -- Programs
 
@@ -194,7 +253,7 @@ module _ (p : Program) (well_formed : IsWellFormed p) where
   class_clean : (class : Name) (c : Class) → class_named p.classes class ≡ Some c → IsClean p c
   class_clean class c is = found_of (IsClean p) (λ c. c.name.name) p.classes class c (classes_clean p p.classes all_clean.1 well_formed.shapes) is
 
-  class_at : (class : Name) (c : Class) → class_named p.classes class ≡ Some c → ClassAt p class c
+  pub class_at : (class : Name) (c : Class) → class_named p.classes class ≡ Some c → ClassAt p class c
   class_at class c is =
       let name : class ≡ c.name.name = found_name (λ c. c.name.name) p.classes class c is in
       record {

@@ -15,6 +15,7 @@ use Rattle.pv_ast.specs.declared.Right.{Right}
 use Rattle.pv_ast.specs.declared.RightKind.{RightKind}
 use Rattle.pv_ast.specs.declared.RightKind.TheVariants as right
 use Rattle.pv_rules.specs.declared.fault.Rule.TheVariants as rule
+use Rattle.pv_rules.specs.declared.standing.Context.{Context}
 use Rattle.pv_rules.specs.declared.standing.Need.{Need}
 use Rattle.pv_rules.specs.declared.standing.Need.TheVariants.{Anything, Exactly, AnObject}
 use Rattle.pv_rules.specs.declared.standing.Seen.{Seen}
@@ -32,7 +33,7 @@ use Rattle.pv_rules.specs.Parts.{Around, Part, Holder, among, part_of, typing_in
 use Rattle.pv_rules.specs.Statements.{option_type, in_statement, faults_of_expression, faults_of_right_kind, faults_of_first_value, parts_of, part_of_option, typing_of_call, typing_of_right_kind, typing_of_array, is_class, need_like}
 use Rattle.pv_meaning.specs.Core.{Expression}
 use Rattle.pv_meaning.specs.Core as core
-use Rattle.pv_meaning.specs.Members.{method_named}
+use Rattle.pv_meaning.specs.Members.{method_named, predicate_named}
 use Rattle.pv_meaning.specs.Values.{array_of, default_of}
 use Rattle.pv_picks.specs.Operations.{target_of}
 use Rattle.pv_picks.specs.Names.{class_at}
@@ -41,47 +42,60 @@ use Rattle.pv_picks.specs.Statements.{core_of_call, core_of_right_kind, core_of_
 use Rattle.pv_picks.specs.Resolved.{names_of}
 use Rattle.pv_picks.proofs.Clean.{Clean, unless_holds, if_fails}
 use Rattle.pv_picks.proofs.Layers.{part_in_piece, shape_in_piece}
+use Rattle.pv_picks.proofs.Knowing.{knows_all}
 use Rattle.pv_picks.proofs.Uses.{kept}
-use Rattle.typed_programs.specs.Expressions.{Home, answer_of, IsElement, IsOf, AreOf}
+use Rattle.typed_programs.specs.Expressions.{Home, Speech, silent, answer_of, IsElement, Says, AllSay, IsOf, AreOf}
 use Rattle.typed_programs.specs.Blocks.{types_of, TargetFits, RightFits}
 use Rattle.typing_laws.proofs.Types.{exact, itself, not_null, object_wanted}
 use Rattle.typing_laws.proofs.Scopes.{listed_known}
-use Rattle.typing_laws.proofs.Places.{Place, statement_pure}
+use Rattle.typing_laws.proofs.Places.{Place, Strict, statement_strict}
+use Rattle.typing_laws.proofs.Purity.{purely, solid_pure}
 use Rattle.typing_laws.proofs.Expressions.{Fits, expression_law, class_here, no_first, no_second}
 
--- Expressions of statements
+-- Expressions in strict contexts
 
 -- a part without a fault has a type that is needed
+meets_in : (e : Expr) (h : Home) (a : Around) (v : Visible) (xs : List core.Parameter) (c : Context) (need : Need) → Place h a v xs → Clean ((part_of e).faults a v c need) → typing.meets need (typing_in (piece_of e).part a v) ≡ true
+meets_in e h a v xs c need place clean = (kept e h.program (names_of xs) a v c need place.sound (knows_all c.locals v (names_of xs) (listed_known v xs place.listed)) clean).0
+
 pub meets_need : (e : Expr) (h : Home) (a : Around) (v : Visible) (xs : List core.Parameter) (need : Need) → Place h a v xs → Clean (faults_of_expression a v need e) → typing.meets need (typing_in (piece_of e).part a v) ≡ true
-meets_need e h a v xs need place clean = (kept e h.program (names_of xs) a v in_statement need place.sound (listed_known v xs place.listed) clean).0
+meets_need e h a v xs need place clean = meets_in e h a v xs in_statement need place clean
 
 as_part : (e : Expr) (a : Around) (v : Visible) (need : Need) → typing.meets need (typing_in (piece_of e).part a v) ≡ true → typing.meets need (typing_in (part_of e) a v) ≡ true
 as_part e a v need m = subst (λ (p : Part). typing.meets need (typing_in p a v) ≡ true) (part_in_piece e) m
 
-fits : (e : Expr) (h : Home) (a : Around) (v : Visible) (xs : List core.Parameter) (need : Need) → Place h a v xs → Clean (faults_of_expression a v need e) → quantifiers_in e ≡ []
-    → Fits h a xs ((piece_of e).part.seen a v) (core_of_expression a v e)
-fits e h a v xs need place clean none =
-    expression_law e h a v xs in_statement need place statement_pure
-    (subst (λ (p : Part). Clean (p.faults a v in_statement need)) (sym (part_in_piece e)) clean)
-    (ap (λ (s : Shape). s.quantifiers) (shape_in_piece e) ∙ none)
+pub fits : (e : Expr) (h : Home) (speech : Speech) (a : Around) (v : Visible) (xs : List core.Parameter) (c : Context) (need : Need) → Place h a v xs → Strict speech a c → Clean ((part_of e).faults a v c need) → quantifiers_in e ≡ []
+    → Fits h speech a xs ((piece_of e).part.seen a v) (core_of_expression a v e)
+fits e h speech a v xs c need place strict clean none =
+    let clean_piece : Clean ((piece_of e).part.faults a v c need) = subst (λ (p : Part). Clean (p.faults a v c need)) (sym (part_in_piece e)) clean in
+    expression_law e h speech a v xs c need place strict.speaks clean_piece
+    (solid_pure e h a v xs c need place clean_piece (purely strict.pure (ap (λ (s : Shape). s.quantifiers) (shape_in_piece e) ∙ none)))
+
+goes_in : (e : Expr) (h : Home) (speech : Speech) (a : Around) (v : Visible) (xs : List core.Parameter) (c : Context) (type : PvType) → Place h a v xs → Strict speech a c → Clean ((part_of e).faults a v c (Exactly type)) → quantifiers_in e ≡ []
+    → Says h speech xs (core_of_expression a v e) type
+goes_in e h speech a v xs c type place strict clean none = (fits e h speech a v xs c (Exactly type) place strict clean none).goes type (meets_in e h a v xs c (Exactly type) place clean)
 
 pub goes : (e : Expr) (h : Home) (a : Around) (v : Visible) (xs : List core.Parameter) (type : PvType) → Place h a v xs → Clean (faults_of_expression a v (Exactly type) e) → quantifiers_in e ≡ []
     → IsOf h xs (core_of_expression a v e) type
-goes e h a v xs type place clean none = (fits e h a v xs (Exactly type) place clean none).goes type (meets_need e h a v xs (Exactly type) place clean)
+goes e h a v xs type place clean none = goes_in e h silent a v xs in_statement type place (statement_strict a) clean none
+
+object_in : (e : Expr) (h : Home) (speech : Speech) (a : Around) (v : Visible) (xs : List core.Parameter) (c : Context) → Place h a v xs → Strict speech a c → Clean ((part_of e).faults a v c AnObject) → quantifiers_in e ≡ []
+    → Says h speech xs (core_of_expression a v e) (Object (class_at (typing_in (piece_of e).part a v)))
+object_in e h speech a v xs c place strict clean none =
+    let t : Typing = typing_in (piece_of e).part a v in
+    (fits e h speech a v xs c AnObject place strict clean none).goes (Object (class_at t)) (object_wanted t (meets_in e h a v xs c AnObject place clean))
 
 pub object_goes : (e : Expr) (h : Home) (a : Around) (v : Visible) (xs : List core.Parameter) → Place h a v xs → Clean (faults_of_expression a v AnObject e) → quantifiers_in e ≡ []
     → IsOf h xs (core_of_expression a v e) (Object (class_at (typing_in (piece_of e).part a v)))
-object_goes e h a v xs place clean none =
-    let t : Typing = typing_in (piece_of e).part a v in
-    (fits e h a v xs AnObject place clean none).goes (Object (class_at t)) (object_wanted t (meets_need e h a v xs AnObject place clean))
+object_goes e h a v xs place clean none = object_in e h silent a v xs in_statement place (statement_strict a) clean none
 
 -- Objects before the name of a method or predicate
 
-pub record ObjectAt (h : Home) (a : Around) (v : Visible) (xs : List core.Parameter) (target : Option Expr) : Type 0 where
+pub record ObjectAt (h : Home) (speech : Speech) (a : Around) (v : Visible) (xs : List core.Parameter) (target : Option Expr) : Type 0 where
   pub class : Name
   pub holder : holder_of a (seen_of_target a v (part_of_option target)) ≡ among (members_of (class_named a.program.classes class))
   pub named : class_of_object (option_map piece_of target) a v ≡ class
-  pub goes : IsOf h xs (object_of (option_map piece_of target) a v) (Object class)
+  pub goes : Says h speech xs (object_of (option_map piece_of target) a v) (Object class)
 
 object_typing : (t : Typing) → typing.meets AnObject t ≡ true → t ≡ Typed (Object (class_at t))
 object_typing (Typed (Object class)) k = refl
@@ -103,21 +117,21 @@ seen_holder h a v xs s place this m =
     ap (λ t. parts.holder_of_typing a s.this t) typed
     ∙ ap (λ c. among (members_of c)) (class_here a s.this (class_at s.typing) place.sound.here (λ b. same_class _ _ (sym typed ∙ this b)))
 
-pub object_at : (target : Option Expr) (h : Home) (a : Around) (v : Visible) (xs : List core.Parameter) → Place h a v xs → Clean (parts.faults_of_target a v in_statement (part_of_option target)) → quantifiers_in_option target ≡ []
-    → ObjectAt h a v xs target
-object_at None h a v xs place clean none = record {
+pub object_at : (target : Option Expr) (h : Home) (speech : Speech) (a : Around) (v : Visible) (xs : List core.Parameter) (c : Context) → Place h a v xs → Strict speech a c → Clean (parts.faults_of_target a v c (part_of_option target))
+    → quantifiers_in_option target ≡ [] → ObjectAt h speech a v xs target
+object_at None h speech a v xs c place strict clean none = record {
   class = a.class;
   holder = seen_holder h a v xs (seen_of_target a v None) place (λ b. refl) refl;
   named = refl;
   goes = ap Object place.class;
 }
-object_at (Some e) h a v xs place clean none =
+object_at (Some e) h speech a v xs c place strict clean none =
     let s : Seen = (piece_of e).part.seen a v in
     record {
       class = class_at s.typing;
-      holder = ap (λ (p : Part). holder_of a (p.seen a v)) (sym (part_in_piece e)) ∙ seen_holder h a v xs s place (fits e h a v xs AnObject place clean none).this (meets_need e h a v xs AnObject place clean);
+      holder = ap (λ (p : Part). holder_of a (p.seen a v)) (sym (part_in_piece e)) ∙ seen_holder h a v xs s place (fits e h speech a v xs c AnObject place strict clean none).this (meets_in e h a v xs c AnObject place clean);
       named = refl;
-      goes = object_goes e h a v xs place clean none;
+      goes = object_in e h speech a v xs c place strict clean none;
     }
 
 -- Arguments
@@ -128,16 +142,16 @@ zero≢suc k = cc
 suc_inj : {m n : ℕ} → suc m ≡ suc n → m ≡ n
 suc_inj k = cc
 
-pub arguments_go : (es : List Expr) (types : List PvType) (h : Home) (a : Around) (v : Visible) (xs : List core.Parameter) → Place h a v xs → length (parts_of es) ≡ length types
-    → Clean (faults_of_args (parts_of es) types a v in_statement) → quantifiers_in_all es ≡ []
-    → AreOf h xs (arguments_of (pieces_of es) a v) types × (args_meet (parts_of es) types a v ≡ true)
-arguments_go [] [] h a v xs place count clean none = (tt, refl)
-arguments_go [] (type ∷ types) h a v xs place count clean none = absurd (zero≢suc count)
-arguments_go (e ∷ es) [] h a v xs place count clean none = absurd (zero≢suc (sym count))
-arguments_go (e ∷ es) (type ∷ types) h a v xs place count clean none =
-    let rest = arguments_go es types h a v xs place (suc_inj count) clean.1 (no_second (quantifiers_in e) (quantifiers_in_all es) none) in (
-      (goes e h a v xs type place clean.0 (no_first (quantifiers_in e) (quantifiers_in_all es) none), rest.0),
-      and_from _ _ (as_part e a v (Exactly type) (meets_need e h a v xs (Exactly type) place clean.0)) rest.1,
+pub arguments_go : (es : List Expr) (types : List PvType) (h : Home) (speech : Speech) (a : Around) (v : Visible) (xs : List core.Parameter) (c : Context) → Place h a v xs → Strict speech a c → length (parts_of es) ≡ length types
+    → Clean (faults_of_args (parts_of es) types a v c) → quantifiers_in_all es ≡ []
+    → AllSay h speech xs (arguments_of (pieces_of es) a v) types × (args_meet (parts_of es) types a v ≡ true)
+arguments_go [] [] h speech a v xs c place strict count clean none = (tt, refl)
+arguments_go [] (type ∷ types) h speech a v xs c place strict count clean none = absurd (zero≢suc count)
+arguments_go (e ∷ es) [] h speech a v xs c place strict count clean none = absurd (zero≢suc (sym count))
+arguments_go (e ∷ es) (type ∷ types) h speech a v xs c place strict count clean none =
+    let rest = arguments_go es types h speech a v xs c place strict (suc_inj count) clean.1 (no_second (quantifiers_in e) (quantifiers_in_all es) none) in (
+      (goes_in e h speech a v xs c type place strict clean.0 (no_first (quantifiers_in e) (quantifiers_in_all es) none), rest.0),
+      and_from _ _ (as_part e a v (Exactly type) (meets_in e h a v xs c (Exactly type) place clean.0)) rest.1,
     )
 
 same_count : (m n : ℕ) → not (nat_eq m n) ≡ false → m ≡ n
@@ -158,28 +172,40 @@ call_fits : (o : Option Method) (h : Home) (a : Around) (v : Visible) (xs : List
     → Place h a v xs → Clean (faults_of_use w (parts_of args) (signature_of_method o) a v in_statement) → quantifiers_in_all args ≡ [] → CallFits h a v xs class w args
 call_fits None h a v xs class w args is place clean none = absurd clean.0
 call_fits (Some m) h a v xs class w args is place clean none =
-    let all = arguments_go args (parts.types_of m.params) h a v xs place (same_count _ _ (if_fails _ rule.WrongCount w.span clean.1.1)) clean.1.0 none in
+    let all = arguments_go args (parts.types_of m.params) h silent a v xs in_statement place (statement_strict a) (same_count _ _ (if_fails _ rule.WrongCount w.span clean.1.1)) clean.1.0 none in
     record { method = m; found = is; arguments = all.0; meet = all.1 }
 
-pub call_at : (target : Option Expr) (w : Word) (args : List Expr) (h : Home) (a : Around) (v : Visible) (xs : List core.Parameter) → (o : ObjectAt h a v xs target) → Place h a v xs
+pub call_at : (target : Option Expr) (w : Word) (args : List Expr) (h : Home) (a : Around) (v : Visible) (xs : List core.Parameter) → (o : ObjectAt h silent a v xs target) → Place h a v xs
     → Clean (parts.faults_of_method_use (seen_of_target a v (part_of_option target)) w (parts_of args) a v in_statement) → quantifiers_in_all args ≡ [] → CallFits h a v xs o.class w args
 call_at target w args h a v xs o place clean none =
     call_fits (rules.method_named (members_of (class_named a.program.classes o.class)) w.name) h a v xs o.class w args refl place
     (subst (λ (x : Holder). Clean (faults_of_use w (parts_of args) (method_signature x w.name) a v in_statement)) o.holder clean) none
 
--- a use of a predicate
-instance_fits : (o : Option Predicate) (h : Home) (a : Around) (v : Visible) (xs : List core.Parameter) (w : Word) (args : List Expr)
-    → Place h a v xs → Clean (faults_of_use w (parts_of args) (signature_of_predicate o) a v in_statement) → quantifiers_in_all args ≡ [] → (types : List PvType) × AreOf h xs (arguments_of (pieces_of args) a v) types
-instance_fits None h a v xs w args place clean none = absurd clean.0
-instance_fits (Some q) h a v xs w args place clean none =
-    (parts.types_of q.params, (arguments_go args (parts.types_of q.params) h a v xs place (same_count _ _ (if_fails _ rule.WrongCount w.span clean.1.1)) clean.1.0 none).0)
+-- a use of a predicate: the one of the name that the object's class has, with arguments of its parameters' types
+pub record InstanceFits (h : Home) (speech : Speech) (a : Around) (v : Visible) (xs : List core.Parameter) (class : Name) (w : Word) (args : List Expr) : Type 0 where
+  pub predicate : core.Predicate
+  pub found : predicate_named h.program class w.name ≡ Some predicate
+  pub arguments : AllSay h speech xs (arguments_of (pieces_of args) a v) (types_of predicate.parameters)
 
-pub instance_at : (target : Option Expr) (w : Word) (args : List Expr) (h : Home) (a : Around) (v : Visible) (xs : List core.Parameter) → (o : ObjectAt h a v xs target) → Place h a v xs
-    → Clean (parts.faults_of_predicate_use (seen_of_target a v (part_of_option target)) w (parts_of args) a v in_statement) → quantifiers_in_all args ≡ []
-    → (types : List PvType) × AreOf h xs (arguments_of (pieces_of args) a v) types
-instance_at target w args h a v xs o place clean none =
-    instance_fits (rules.predicate_named (members_of (class_named a.program.classes o.class)) w.name) h a v xs w args place
-    (subst (λ (x : Holder). Clean (faults_of_use w (parts_of args) (predicate_signature x w.name) a v in_statement)) o.holder clean) none
+instance_fits : (o : Option Predicate) (h : Home) (speech : Speech) (a : Around) (v : Visible) (xs : List core.Parameter) (c : Context) (class : Name) (w : Word) (args : List Expr)
+    → rules.predicate_named (members_of (class_named a.program.classes class)) w.name ≡ o → Place h a v xs → Strict speech a c
+    → Clean (faults_of_use w (parts_of args) (signature_of_predicate o) a v c) → quantifiers_in_all args ≡ [] → InstanceFits h speech a v xs class w args
+instance_fits None h speech a v xs c class w args is place strict clean none = absurd clean.0
+instance_fits (Some q) h speech a v xs c class w args is place strict clean none =
+    let there = place.declares.predicates class w.name q is in
+    record {
+      predicate = there.there;
+      found = there.found;
+      arguments = subst (λ types. AllSay h speech xs (arguments_of (pieces_of args) a v) types) (sym there.types)
+          (arguments_go args (parts.types_of q.params) h speech a v xs c place strict (same_count _ _ (if_fails _ rule.WrongCount w.span clean.1.1)) clean.1.0 none).0;
+    }
+
+pub instance_at : (target : Option Expr) (w : Word) (args : List Expr) (h : Home) (speech : Speech) (a : Around) (v : Visible) (xs : List core.Parameter) (c : Context) → (o : ObjectAt h speech a v xs target) → Place h a v xs → Strict speech a c
+    → Clean (parts.faults_of_predicate_use (seen_of_target a v (part_of_option target)) w (parts_of args) a v c) → quantifiers_in_all args ≡ []
+    → InstanceFits h speech a v xs o.class w args
+instance_at target w args h speech a v xs c o place strict clean none =
+    instance_fits (rules.predicate_named (members_of (class_named a.program.classes o.class)) w.name) h speech a v xs c o.class w args refl place strict
+    (subst (λ (x : Holder). Clean (faults_of_use w (parts_of args) (predicate_signature x w.name) a v c)) o.holder clean) none
 
 -- Calls
 
@@ -200,7 +226,7 @@ pub call_goes : (target : Option Expr) (w : Word) (args : List Expr) (h : Home) 
     → Clean (parts.faults_of_call (part_of_option target) w (parts_of args) a v in_statement) → quantifiers_in_option target ≡ [] → quantifiers_in_all args ≡ []
     → (type : PvType) × RightFits h xs (core_of_call a v target w args) type
 call_goes target w args h a v xs place clean none none_there =
-    let o = object_at target h a v xs place clean.0 none in
+    let o = object_at target h silent a v xs in_statement place (statement_strict a) clean.0 none in
     let c = called h a v xs o.class w args place (call_at target w args h a v xs o place clean.1 none_there) in
     (answer_of c.method, subst (λ class. RightFits h xs (core.Call class w.name (object_of (option_map piece_of target) a v) (arguments_of (pieces_of args) a v)) (answer_of c.method)) (sym o.named) (o.goes, (c.method, c.found, c.arguments, refl)))
 
@@ -214,7 +240,7 @@ typing_if : (b : Bool) (t u : Typing) → b ≡ true → (if b then t else u) �
 typing_if true t u k = refl
 typing_if false t u k = absurd cc
 
-call_typing : (target : Option Expr) (w : Word) (args : List Expr) (h : Home) (a : Around) (v : Visible) (xs : List core.Parameter) (o : ObjectAt h a v xs target) (c : CallFits h a v xs o.class w args)
+call_typing : (target : Option Expr) (w : Word) (args : List Expr) (h : Home) (a : Around) (v : Visible) (xs : List core.Parameter) (o : ObjectAt h silent a v xs target) (c : CallFits h a v xs o.class w args)
     → typing_of_right_kind a v (right.Call target w args) ≡ typing.typing_or Untyped (option_type c.method.result)
 call_typing target w args h a v xs o c =
     ap (λ holder. typing_of_call a v (parts_of args) (method_in holder w.name)) o.holder
@@ -225,7 +251,7 @@ call_right : (target : Option Expr) (w : Word) (args : List Expr) (h : Home) (a 
     → Clean (parts.faults_of_call (part_of_option target) w (parts_of args) a v in_statement) → Clean (typing.wrong_type (Exactly need) (typing_of_right_kind a v (right.Call target w args)) span)
     → quantifiers_in_option target ≡ [] → quantifiers_in_all args ≡ [] → RightFits h xs (core_of_call a v target w args) need
 call_right target w args h a v xs need span place clean type none none_there =
-    let o = object_at target h a v xs place clean.0 none in
+    let o = object_at target h silent a v xs in_statement place (statement_strict a) clean.0 none in
     let fit = call_at target w args h a v xs o place clean.1 none_there in
     let c = called h a v xs o.class w args place fit in
     let wanted : need ≡ unwrap_or (option_type fit.method.result) Null =
@@ -298,7 +324,7 @@ pub record TargetAt (h : Home) (a : Around) (v : Visible) (xs : List core.Parame
   pub need : need_like (typing_in (part_of e) a v) ≡ Exactly type
   pub target : TargetFits h xs (core_of_target a v e) type
 
-typed_place : (t : Typing) → typing.meets Anything t ≡ true → (type : PvType) × (t ≡ Typed type)
+pub typed_place : (t : Typing) → typing.meets Anything t ≡ true → (type : PvType) × (t ≡ Typed type)
 typed_place (Typed type) m = (type, refl)
 typed_place Unsettled m = absurd cc
 typed_place Untyped m = absurd cc
@@ -309,5 +335,5 @@ target_at e h a v xs place clean none =
     record {
       type = t.0;
       need = ap (λ (p : Part). need_like (typing_in p a v)) (sym (part_in_piece e)) ∙ ap need_like t.1;
-      target = target_fits h xs (core_of_expression a v e) t.0 ((fits e h a v xs Anything place clean none).goes t.0 (ap (typing.meets (Exactly t.0)) t.1 ∙ itself t.0));
+      target = target_fits h xs (core_of_expression a v e) t.0 ((fits e h silent a v xs in_statement Anything place (statement_strict a) clean none).goes t.0 (ap (typing.meets (Exactly t.0)) t.1 ∙ itself t.0));
     }

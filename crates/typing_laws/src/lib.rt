@@ -9,10 +9,16 @@ ghost use Rattle.pv_meaning.specs.Worlds.{World};
 ghost use Rattle.pv_picks.specs.Programs.{core_of};
 ghost use Rattle.machine_laws.specs.Typed.{IsTypedHeap};
 ghost use Rattle.typed_programs.specs.Blocks.{ProgramFits};
+ghost use Rattle.typing_laws.specs.Formulas.{FormulasFit};
 
 /// What a well formed program becomes is well typed: its methods and each `run`.
 pub fn well_formed_programs_are_typed()
     ensures { (p : Program) → IsWellFormed p → ProgramFits (core_of p) }
+{}
+
+/// Each formula of what a well formed program becomes is well typed: in contracts, predicates, lock invariants and statements.
+pub fn formulas_of_well_formed_programs_are_typed()
+    ensures { (p : Program) → IsWellFormed p → FormulasFit (core_of p) }
 {}
 
 /// On the machine the heap of each world that a well formed program reaches is well typed: a step keeps it so.

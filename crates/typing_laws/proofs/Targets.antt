@@ -1,0 +1,108 @@
+-- What may be assigned becomes a place or a variable.
+use Rattle.std.proofs.Common.{◌≡◌, Bool, true, false, ◌||◌, Option, Some, None, List, [], refl, sym, ◌∙◌, ap, subst}
+use Rattle.pv_base.specs.declared.Name.{Name}
+use Rattle.pv_base.specs.declared.Span.{Span}
+use Rattle.pv_ast.specs.declared.Expr.{Expr}
+use Rattle.pv_ast.specs.declared.ExprKind.{ExprKind, ExprKind-F, out-ExprKind, roll-ExprKind, roll-out-ExprKind}
+use Rattle.pv_ast.specs.declared.ExprKind.TheVariants as kind
+use Rattle.pv_ast.specs.declared.Each.{Each}
+use Rattle.pv_rules.specs.declared.scope.Declared.{Declared}
+use Rattle.pv_rules.specs.declared.standing.Need.TheVariants.{Anything}
+use Rattle.pv_rules.specs.Scoping.{Visible, variable_named, is_inner_local}
+use Rattle.pv_rules.specs.Parts.{Around, Part, part_of}
+use Rattle.pv_rules.specs.Statements.{is_assignable, is_inner_local_kind, faults_of_expression, in_statement}
+use Rattle.pv_rules.specs.Shapes.{quantifiers_in}
+use Rattle.pv_meaning.specs.Core.{Expression, Right}
+use Rattle.pv_meaning.specs.Core as core
+use Rattle.pv_picks.specs.Operations.{target_of}
+use Rattle.pv_picks.specs.Names.{named}
+use Rattle.pv_picks.specs.Pieces.{Piece, KindPiece, piece_of, piece_in_kind, core_of_expression}
+use Rattle.pv_picks.specs.Statements.{core_of_target}
+use Rattle.pv_picks.proofs.Clean.{Clean}
+use Rattle.pv_picks.proofs.Layers.{layer_of, piece_rolled, kind_rolled, part_in_piece}
+use Rattle.typed_programs.specs.Expressions.{Home, silent}
+use Rattle.typing_laws.specs.Formulas.{IsKept}
+use Rattle.typing_laws.proofs.Places.{Place, statement_strict}
+use Rattle.typing_laws.proofs.Expressions.{IsPlace}
+use Rattle.typing_laws.proofs.Uses.{fits}
+
+place_kept : (e : Expression) (right : Right) → IsPlace e → IsKept (target_of e) right
+place_kept (core.Constant v) right place = absurd place
+place_kept core.This right place = absurd place
+place_kept core.Result right place = absurd place
+place_kept (core.Variable name') right place = absurd place
+place_kept (core.Field e class field at) right place = tt
+place_kept (core.Element type' e i at) right place = tt
+place_kept (core.Length type' e at) right place = absurd place
+place_kept (core.Not e) right place = absurd place
+place_kept (core.Compute m o x y at) right place = absurd place
+place_kept (core.Compare c x y) right place = absurd place
+place_kept (core.Equal same x y) right place = absurd place
+place_kept (core.And x y) right place = absurd place
+place_kept (core.Or x y) right place = absurd place
+place_kept (core.Implies x y) right place = absurd place
+place_kept (core.Old e) right place = absurd place
+
+named_kept : (a : Around) (span : Span) (name : Name) (o : Option Declared) (right : Right) → IsKept (target_of (named a span name o)) right
+named_kept a span name None right = tt
+named_kept a span name (Some d) right = tt
+
+-- a kind that is the name of a local
+abbrev is_local : Visible → ExprKind-F ExprKind Each Expr → Bool
+is_local v (ExprKind-F.Var w) = is_inner_local v w.name
+is_local v _ = false
+
+as_rolled : (v : Visible) (l : ExprKind-F ExprKind Each Expr) → is_inner_local_kind v (roll-ExprKind l) ≡ is_local v l
+as_rolled v (ExprKind-F.Number n) = ap (is_inner_local_kind v) (kind.rolls-Number n)
+as_rolled v (ExprKind-F.Truth b) = ap (is_inner_local_kind v) (kind.rolls-Truth b)
+as_rolled v ExprKind-F.Null = ap (is_inner_local_kind v) kind.rolls-Null
+as_rolled v ExprKind-F.This = ap (is_inner_local_kind v) kind.rolls-This
+as_rolled v ExprKind-F.Result = ap (is_inner_local_kind v) kind.rolls-Result
+as_rolled v (ExprKind-F.Var w) = ap (is_inner_local_kind v) (kind.rolls-Var w)
+as_rolled v (ExprKind-F.Field e w) = ap (is_inner_local_kind v) (kind.rolls-Field e w)
+as_rolled v (ExprKind-F.Index e i) = ap (is_inner_local_kind v) (kind.rolls-Index e i)
+as_rolled v (ExprKind-F.Not e) = ap (is_inner_local_kind v) (kind.rolls-Not e)
+as_rolled v (ExprKind-F.Minus e) = ap (is_inner_local_kind v) (kind.rolls-Minus e)
+as_rolled v (ExprKind-F.Binary o x y) = ap (is_inner_local_kind v) (kind.rolls-Binary o x y)
+as_rolled v (ExprKind-F.Old e) = ap (is_inner_local_kind v) (kind.rolls-Old e)
+as_rolled v (ExprKind-F.Perm e part whole amount) = ap (is_inner_local_kind v) (kind.rolls-Perm e part whole amount)
+as_rolled v (ExprKind-F.Token t e) = ap (is_inner_local_kind v) (kind.rolls-Token t e)
+as_rolled v (ExprKind-F.Instance target w args) = ap (is_inner_local_kind v) (kind.rolls-Instance target w args)
+as_rolled v (ExprKind-F.Each q) = ap (is_inner_local_kind v) (kind.rolls-Each q)
+
+as_layer : (v : Visible) (k : ExprKind) → is_inner_local_kind v k ≡ is_local v (out-ExprKind k)
+as_layer v k = ap (is_inner_local_kind v) (sym (roll-out-ExprKind k)) ∙ as_rolled v (out-ExprKind k)
+
+local_kept : (l : ExprKind-F ExprKind Each Expr) (a : Around) (v : Visible) (span : Span) (right : Right) → is_local v l ≡ true → IsKept (target_of ((piece_in_kind (layer_of l)).expression span a v)) right
+local_kept (ExprKind-F.Var w) a v span right k = named_kept a span w.name (variable_named v w.name) right
+local_kept (ExprKind-F.Number n) a v span right k = absurd cc
+local_kept (ExprKind-F.Truth b) a v span right k = absurd cc
+local_kept ExprKind-F.Null a v span right k = absurd cc
+local_kept ExprKind-F.This a v span right k = absurd cc
+local_kept ExprKind-F.Result a v span right k = absurd cc
+local_kept (ExprKind-F.Field e w) a v span right k = absurd cc
+local_kept (ExprKind-F.Index e i) a v span right k = absurd cc
+local_kept (ExprKind-F.Not e) a v span right k = absurd cc
+local_kept (ExprKind-F.Minus e) a v span right k = absurd cc
+local_kept (ExprKind-F.Binary o x y) a v span right k = absurd cc
+local_kept (ExprKind-F.Old e) a v span right k = absurd cc
+local_kept (ExprKind-F.Perm e part whole amount) a v span right k = absurd cc
+local_kept (ExprKind-F.Token t e) a v span right k = absurd cc
+local_kept (ExprKind-F.Instance target w args) a v span right k = absurd cc
+local_kept (ExprKind-F.Each q) a v span right k = absurd cc
+
+name_kept : (e : Expr) (a : Around) (v : Visible) (right : Right) → is_inner_local_kind v e.kind ≡ true → IsKept (core_of_target a v e) right
+name_kept e a v right k =
+    let rolled : (piece_of e).expression a v ≡ (piece_in_kind (layer_of (out-ExprKind e.kind))).expression e.span a v =
+    ap (λ (p : Piece). p.expression a v) (piece_rolled e) ∙ ap (λ (k : KindPiece). k.expression e.span a v) (kind_rolled e.kind) in
+    subst (λ x. IsKept (target_of x) right) (sym rolled) (local_kept (out-ExprKind e.kind) a v e.span right (sym (as_layer v e.kind) ∙ k))
+
+-- a left side without a fault
+pub target_kept : (e : Expr) (h : Home) (a : Around) (v : Visible) (xs : List core.Parameter) (right : Right) → Place h a v xs → Clean (faults_of_expression a v Anything e) → quantifiers_in e ≡ [] → is_assignable a v e ≡ true
+    → IsKept (core_of_target a v e) right
+target_kept e h a v xs right place clean none assignable = by ((part_of e).seen a v).location refl assignable
+  where
+    by : (b : Bool) → ((part_of e).seen a v).location ≡ b → (b || is_inner_local_kind v e.kind) ≡ true → IsKept (core_of_target a v e) right
+    by true is k =
+        place_kept (core_of_expression a v e) right ((fits e h silent a v xs in_statement Anything place (statement_strict a) clean none).place (ap (λ (p : Part). (p.seen a v).location) (part_in_piece e) ∙ is))
+    by false is k = name_kept e a v right k
