@@ -1,5 +1,5 @@
 -- What a run takes and gives, in two related settings, comes to related rests.
-use Rattle.std.proofs.Common.{ℕ, zero, suc, ℤ, pos, negsuc, Bool, true, false, Option, Some, None, List, [], ◌∷◌, subst}
+use Rattle.std.proofs.Common.{ℕ, zero, suc, ℤ, pos, negsuc, Option, Some, None, List, [], ◌∷◌, subst}
 use Rattle.std.specs.Prelude.{int_le, nat_le, nat_eq, ◌+◌, ◌&&◌}
 use Rattle.pv_base.specs.declared.Name.{Name}
 use Rattle.pv_base.specs.declared.Span.{Span}

@@ -6,7 +6,7 @@ use Rattle.pv_base.specs.declared.Span.{Span}
 use Rattle.pv_values.specs.declared.value.Value.{Value}
 use Rattle.pv_meaning.specs.declared.check.Check.TheVariants as check
 use Rattle.pv_meaning.specs.Core.{Expression, Formula, Fact, FieldPermission, ElementPermission, Holds, Instance, Star, When, Each, Items, NoItems, Join, Item, Elements, Repeated, Committed, Guarded, Fixed}
-use Rattle.pv_meaning.specs.Values.{number_in, truth_in, reference_in, is_empty}
+use Rattle.pv_meaning.specs.Values.{number_in, truth_in, reference_in}
 use Rattle.pv_meaning.specs.Evaluation.{evaluate_all}
 use Rattle.pv_meaning.specs.States.{State, Bind, cells_of}
 use Rattle.pv_meaning.specs.Settings.{Setting, Next, Known, ArrayPart, formula_reader, if_within}
