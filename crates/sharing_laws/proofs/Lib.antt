@@ -1,0 +1,5 @@
+mod Evaluating
+mod Typed
+mod Shapes
+mod Parts
+mod Both
