@@ -3,3 +3,6 @@ mod Typed
 mod Shapes
 mod Parts
 mod Both
+mod Contracts
+mod Statements
+mod Programs

@@ -1,0 +1,73 @@
+-- In what a well formed program becomes, both forms of each contract that members keep say the same.
+use Rattle.std.proofs.Common.{◌≡◌, ℕ, ◌+◌, Bool, true, None, Option, List, [], ◌∷◌, map, refl, sym, subst}
+use Rattle.std.specs.List.{flat_map, AllByRecursion}
+use Rattle.pv_ast.specs.declared.Stmt.{Stmt}
+use Rattle.pv_ast.specs.declared.Member.{Member}
+use Rattle.pv_ast.specs.declared.Member.TheVariants as member
+use Rattle.pv_ast.specs.declared.Class.{Class}
+use Rattle.pv_ast.specs.declared.Program.{Program}
+use Rattle.pv_rules.specs.declared.fault.ShapeFault.{ShapeFault}
+use Rattle.pv_rules.specs.declared.standing.Spot.{Spot}
+use Rattle.pv_rules.specs.Scoping.{Visible, nothing_visible}
+use Rattle.pv_rules.specs.Parts.{Around}
+use Rattle.pv_rules.specs.Shapes as shapes
+use Rattle.pv_rules.specs.Shapes.{faults_of_stmt, faults_of_block, faults_of_contract, faults_of_invariant, outside}
+use Rattle.pv_rules.specs.Statements.{StmtPart, faults_of_body, parts_of_block, is_nothing}
+use Rattle.pv_rules.specs.Programs.{in_class, faults_of_member, faults_of_members, faults_of_class, faults_of_classes, faults_of_program, at_body}
+use Rattle.pv_rules.specs.WellFormed.{IsWellFormed}
+use Rattle.pv_picks.specs.Statements.{Site, at, block_from, outermost, piece_of_stmt, core_of_body}
+use Rattle.pv_picks.specs.Programs.{core_of, core_of_class, core_of_member, in_method, parameters_in_scope}
+use Rattle.pv_picks.proofs.Clean.{Clean, clean_from}
+use Rattle.pv_picks.proofs.StmtLayers.{parts_in_pieces}
+use Rattle.pv_picks.proofs.Confining.{no_first, no_second}
+use Rattle.pv_picks.proofs.Blocks.{method_blocked, outside_blocked}
+use Rattle.sharing_laws.specs.Sharing.{BlockAgrees, MemberAgrees, ClassAgrees, FormsAgree}
+use Rattle.sharing_laws.proofs.Statements.{Stands, statement_law}
+
+-- Bodies
+
+body_agrees : (ss : List Stmt) (n : ℕ) (a : Around) (v : Visible) (spot : Spot) (site : Site) → Stands v None → Clean (faults_of_body (map (λ s. s.part) (map piece_of_stmt ss)) a v spot) → faults_of_block ss outside ≡ []
+    → BlockAgrees None (block_from n (map piece_of_stmt ss) a v site)
+body_agrees [] n a v spot site stands clean none = tt
+body_agrees (s ∷ ss) n a v spot site stands clean none =
+    let done = statement_law s a v outside (no_first (faults_of_stmt s outside) (faults_of_block ss outside) none) in
+    let here : Spot = record spot { last = is_nothing (map (λ s. s.part) (map piece_of_stmt ss)) } in (
+      done.statement None here (at n site) clean.0 stands tt,
+      body_agrees ss (n + 1) a ((piece_of_stmt s).part.behind v) spot site (done.further None stands) clean.1 (no_second (faults_of_stmt s outside) (faults_of_block ss outside) none),
+    )
+
+whole_body : (a : Around) (v : Visible) (method : Bool) (ss : List Stmt) → Stands v None → Clean (faults_of_body (parts_of_block ss) a v (at_body method)) → faults_of_block ss outside ≡ [] → BlockAgrees None (core_of_body a v ss)
+whole_body a v method ss stands clean none =
+    body_agrees ss 0 a v (at_body method) (outermost v) stands (subst (λ (ps : List StmtPart). Clean (faults_of_body ps a v (at_body method))) (sym (parts_in_pieces ss)) clean) none
+
+-- Members
+
+member_agrees : (a : Around) (m : Member) → Clean (faults_of_member a m) → shapes.faults_of_member m ≡ [] → MemberAgrees (core_of_member a m)
+member_agrees a (member.Field f) clean none = tt
+member_agrees a (member.Predicate q) clean none = tt
+member_agrees a (member.Method m) clean none =
+    whole_body (in_method a m) (parameters_in_scope m) true m.body (method_blocked m.params, tt) clean.1.1.1.0 (no_second (faults_of_contract m.contract) (faults_of_block m.body outside) none)
+member_agrees a (member.Run r) clean none =
+    whole_body a nothing_visible _ r.body (outside_blocked, tt) clean.1 (no_second (faults_of_contract r.contract) (faults_of_block r.body outside) none)
+
+members_agree : (a : Around) (ms : List Member) → Clean (faults_of_members a ms) → flat_map shapes.faults_of_member ms ≡ [] → AllByRecursion MemberAgrees (map (core_of_member a) ms)
+members_agree a [] clean none = tt
+members_agree a (m ∷ ms) clean none = (
+  member_agrees a m clean.0 (no_first (shapes.faults_of_member m) (flat_map shapes.faults_of_member ms) none),
+  members_agree a ms clean.1 (no_second (shapes.faults_of_member m) (flat_map shapes.faults_of_member ms) none),
+)
+
+-- Classes
+
+class_agrees : (p : Program) (c : Class) → Clean (faults_of_class p c) → shapes.faults_of_class c ≡ [] → ClassAgrees (core_of_class p c)
+class_agrees p c clean none = members_agree (in_class p c) c.members clean.1.1.1 (no_second (faults_of_invariant c.lock_invariant) (flat_map shapes.faults_of_member c.members) none)
+
+classes_agree : (p : Program) (cs : List Class) → Clean (faults_of_classes p cs) → flat_map shapes.faults_of_class cs ≡ [] → AllByRecursion ClassAgrees (map (core_of_class p) cs)
+classes_agree p [] clean none = tt
+classes_agree p (c ∷ cs) clean none = (
+  class_agrees p c clean.0 (no_first (shapes.faults_of_class c) (flat_map shapes.faults_of_class cs) none),
+  classes_agree p cs clean.1 (no_second (shapes.faults_of_class c) (flat_map shapes.faults_of_class cs) none),
+)
+
+pub program_agrees : (p : Program) → IsWellFormed p → FormsAgree (core_of p)
+program_agrees p well = classes_agree p p.classes (clean_from (faults_of_program p) well.rules).1 well.shapes
