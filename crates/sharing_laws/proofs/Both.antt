@@ -1,5 +1,5 @@
 -- What is made of items for a position says the same as a formula and as items.
-use Rattle.std.proofs.Common.{◌≡◌, ℕ, Bool, true, false, not, ◌&&◌, ◌||◌, Option, Some, None, is_some, List, [], ◌∷◌, ◌++◌, map, refl, sym, ◌∙◌, ap, subst, inl, inr}
+use Rattle.std.proofs.Common.{◌≡◌, ℕ, Bool, true, false, not, ◌&&◌, ◌||◌, Option, Some, None, is_some, List, [], ◌++◌, map, refl, sym, ◌∙◌, ap, subst, inl, inr}
 use Rattle.std.proofs.lemmas.Bool.{and_parts, and_from, both_ways}
 use Rattle.std.specs.Prelude.{◌⊎◌, if◌then◌else◌}
 use Rattle.pv_base.specs.declared.Name.{Name}
@@ -28,14 +28,14 @@ use Rattle.pv_rules.specs.Statements as rules
 use Rattle.pv_meaning.specs.Core.{Expression, Formula, Items, Item}
 use Rattle.pv_meaning.specs.Core as core
 use Rattle.pv_picks.specs.Operations.{operation}
-use Rattle.pv_picks.specs.Pieces.{Piece, KindPiece, EachPiece, Layer, piece_in_kind, piece_in_expr, piece_of, piece_of_kind, piece_of_each, shapes_in, conjunct, alone, together, is_fact, formula_in_kind, items_in_kind, item_in_kind, type_of_piece, units_of, form_for, core_of_formula, core_of_items}
+use Rattle.pv_picks.specs.Pieces.{Piece, KindPiece, EachPiece, Layer, piece_in_kind, piece_in_expr, piece_of, piece_of_kind, piece_of_each, shapes_in, conjunct, alone, together, is_fact, formula_in_kind, item_in_kind, type_of_piece, units_of, form_for, core_of_formula, core_of_items}
 use Rattle.pv_picks.proofs.Clean.{Clean}
 use Rattle.pv_picks.proofs.Layers.{layer_of, kind_at_roll, each_at_roll, expr_at_roll, part_in_piece, shape_in_piece}
 use Rattle.pv_picks.proofs.Terms.{few_uses}
 use Rattle.pv_picks.proofs.Confining.{no_first, no_second}
 use Rattle.sharing_laws.specs.Sharing.{ItemAgrees, ItemsAgree}
 use Rattle.sharing_laws.proofs.Typed.{meets_piece, is_other, other_int, other_pure, beside_left, beside_right}
-use Rattle.sharing_laws.proofs.Shapes.{IsPosition, shown}
+use Rattle.sharing_laws.proofs.Shapes.{IsPosition, taken, shown}
 use Rattle.sharing_laws.proofs.Parts.{fact_agrees, alone_agrees, together_agrees, permission_agrees, when_same, implied_agrees}
 
 -- Items
@@ -126,10 +126,6 @@ plain name kind parts e span = record { single = λ some c. fact_agrees name e c
 abbrev binary : Operator → Piece → Piece → Layer
 binary o x y = ExprKind-F.Binary o x y
 
-taken : {A : Type 0} (b : Bool) (x y : A) → b ≡ true → (if b then x else y) ≡ x
-taken true x y h = refl
-taken false x y h = absurd cc
-
 -- where both sides are pure, an operator that joins no conjuncts is a fact
 pure_formula : (o : Operator) (x y : Piece) (span : Span) (around : Option Span) (a : Around) (v : Visible) → ((x.shape.facts 0).pure && (y.shape.facts 0).pure) ≡ true → (is_some around || not (keeps_left o)) ≡ true
     → formula_in_kind (binary o x y) span around a v ≡ core.Fact (operation o span (x.expression a v) (y.expression a v)) (conjunct around span)
@@ -164,7 +160,7 @@ two_formulas false name f g is h = h
 joined_made : (o : Operator) (x y : Exprs) (name : Name) (a : Around) (v : Visible) (span : Span) (c d : Context) → IsPosition v name → Clean ((piece_of x.0).part.faults a v c (Exactly Truth)) → Clean ((piece_of y.0).part.faults a v d (Exactly Truth))
     → (piece_of x.0).shape.parts clause name.0 ++ (piece_of y.0).shape.parts clause name.0 ≡ []
     → ItemsAgree name (if ((piece_of x.0).shape.facts 0).pure && ((piece_of y.0).shape.facts 0).pure && false then core.Fact (operation o span ((piece_of x.0).expression a v) ((piece_of y.0).expression a v)) span
-        else core.Star ((piece_of x.0).formula None a v) ((piece_of y.0).formula None a v))
+    else core.Star ((piece_of x.0).formula None a v) ((piece_of y.0).formula None a v))
     (together ((piece_of x.0).items name None a v) ((piece_of y.0).items name None a v))
 joined_made o x y name a v span c d p clean_x clean_y none =
     two_formulas (((piece_of x.0).shape.facts 0).pure && ((piece_of y.0).shape.facts 0).pure) name (core.Fact (operation o span ((piece_of x.0).expression a v) ((piece_of y.0).expression a v)) span)
@@ -274,10 +270,6 @@ implication_single x y name a v span d around p clean some here =
         → (is_some (item_of_pure (facts_of_operator op.Implies f g)) ≡ true) ⊎ (is_some (item_of_implication f g ((piece_of y.0).shape.item name.0) (piece_of y.0).shape.faults) ≡ true) → pure ≡ true
     both no_guard no_fixing (inl i) = at_none x y name.0 (few_pure (facts_of_operator op.Implies f g) i).0
     both no_guard no_fixing (inr i) = nothing_some (is_guard f.form) (is_fixing f.form) (is_term g) (is_empty (piece_of y.0).shape.faults) _ no_guard no_fixing i
-
-or_true : (b : Bool) → (b || true) ≡ true
-or_true true = refl
-or_true false = refl
 
 operator_law : (o : Operator) (x y : Exprs) → LayerLaw (binary o (piece_of x.0) (piece_of y.0))
 operator_law op.Add x y = λ name a v span c p clean m. fact_made op.Add (piece_of x.0) (piece_of y.0) name a v span refl (λ some. operator_pure op.Add x y name some)

@@ -1,5 +1,5 @@
 -- Contracts without a fault say the same in both forms.
-use Rattle.std.proofs.Common.{◌≡◌, ℕ, Bool, true, false, Option, Some, None, is_some, List, [], ◌∷◌, map, cond, refl, sym, ◌∙◌, ap, subst}
+use Rattle.std.proofs.Common.{◌≡◌, Bool, true, false, Option, Some, None, is_some, List, [], ◌∷◌, map, cond, refl, sym, ◌∙◌, ap, subst}
 use Rattle.std.proofs.lemmas.Bool.{eq-eqb}
 use Rattle.std.specs.Prelude.{filter, nat_eq, if◌then◌else◌}
 use Rattle.std.specs.List.{AllByRecursion}
@@ -20,9 +20,8 @@ use Rattle.pv_rules.specs.Shapes.{faults_of_items, faults_of_item_contract}
 use Rattle.pv_rules.specs.Statements as rules
 use Rattle.pv_meaning.specs.Core.{Formula, Items}
 use Rattle.pv_meaning.specs.Core as core
-use Rattle.pv_meaning.specs.Starts.{true_formula}
 use Rattle.pv_picks.specs.Pieces.{together, core_of_formula, core_of_items}
-use Rattle.pv_picks.specs.Statements.{joined, joined_items, formulas_at, core_of_formulas, core_of_all_items, core_of_shared}
+use Rattle.pv_picks.specs.Statements.{formulas_at, core_of_formulas, core_of_all_items, core_of_shared}
 use Rattle.pv_picks.proofs.Clean.{Clean}
 use Rattle.pv_picks.proofs.Agreeing.{or_else, with_name, declared_new, declared_more}
 use Rattle.pv_picks.proofs.Confining.{no_first, no_second}

@@ -2,10 +2,9 @@
 use Rattle.std.proofs.Common.{◌≡◌, ℤ, pos, ◌+ℤ◌, ◌-ℤ◌, Bool, true, false, Option, Some, None, List, [], ◌∷◌, ◌++◌, refl, sym, ◌∙◌, ap}
 use Rattle.std.proofs.Math.IntN.{neg_ℤ, +ℤ_idl, +ℤ_idr}
 use Rattle.std.proofs.lemmas.Bool.{eqb-true}
-use Rattle.std.specs.Prelude.{nat_eq, if◌then◌else◌}
+use Rattle.std.specs.Prelude.{if◌then◌else◌}
 use Rattle.pv_base.specs.declared.Name.{Name}
 use Rattle.pv_base.specs.declared.Span.{Span}
-use Rattle.pv_rules.specs.Lookup.{same_name}
 use Rattle.pv_values.specs.declared.value.Value.{Value}
 use Rattle.pv_values.specs.declared.value.Value.TheVariants as value
 use Rattle.pv_values.specs.declared.value.Location.TheVariants as location
@@ -15,7 +14,7 @@ use Rattle.pv_meaning.specs.Heaps.{Heap}
 use Rattle.pv_meaning.specs.Values.{number_in, truth_in, reference_in, arithmetic, comparison, equality}
 use Rattle.pv_meaning.specs.Evaluation.{Scene, evaluate}
 use Rattle.pv_meaning.specs.Meeting.{or_stop, heap_reader, Sight, value_or, passes, term_of, behind}
-use Rattle.pv_picks.specs.Operations.{is_position, cut_before, cut_behind, cut_of, cuts_of, number}
+use Rattle.pv_picks.specs.Operations.{is_position, cut_before, cut_behind, cuts_of, number}
 
 module _ {R : Type 0} where
   or_same : {A : Type 0} (o : Option A) (stop : R) (f g : A → R) → ((x : A) → f x ≡ g x) → or_stop o stop f ≡ or_stop o stop g
@@ -121,9 +120,6 @@ module _ {R : Type 0} (stop : R) (sight : Sight) (scene : Scene) (name : Name) (
   behind_append outside rest [] ds = refl
   behind_append outside rest (c ∷ cs) ds =
       value_same (term_of c) _ _ (λ v. choice_same (passes c position v) _ _ _ _ (behind_append outside rest cs ds) refl)
-
-  one_behind : (c : Cut) (outside rest : R) → R
-  one_behind c outside rest = value_or stop sight scene (term_of c) (λ v. if passes c position v then rest else outside)
 
   before_met : (c : core.Comparison) (y : Expression) (outside rest : R)
       → behind stop outside sight scene (cut_before c y ∷ []) position rest ≡ value_or stop sight scene y (λ v. if comparison c position (number_in v) then rest else outside)

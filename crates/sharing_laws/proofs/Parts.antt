@@ -1,5 +1,5 @@
 -- What is made of parts of formulas that say the same as items says the same.
-use Rattle.std.proofs.Common.{◌≡◌, ℕ, ◌+◌, ℤ, Bool, true, false, not, ◌&&◌, ◌||◌, Option, Some, None, is_some, refl, sym, ◌∙◌, ap, subst, arith}
+use Rattle.std.proofs.Common.{◌≡◌, ℕ, ◌+◌, ℤ, Bool, true, false, Option, Some, None, is_some, refl, sym, ◌∙◌, ap, subst, arith}
 use Rattle.std.specs.Prelude.{if◌then◌else◌}
 use Rattle.pv_base.specs.declared.Name.{Name}
 use Rattle.pv_base.specs.declared.Span.{Span}
@@ -16,7 +16,7 @@ use Rattle.pv_picks.specs.Operations.{cuts_of, term_of, permission, permissions}
 use Rattle.pv_picks.specs.Pieces.{together, alone, shifted}
 use Rattle.sharing_laws.specs.Sharing.{ItemAgrees, ItemsAgree}
 use Rattle.sharing_laws.proofs.Evaluating.{evaluate_stops, value_same, guards_met, equality_met}
-use Rattle.sharing_laws.proofs.Shapes.{IsIndex, IsElement, FormSays}
+use Rattle.sharing_laws.proofs.Shapes.{IsIndex, FormSays}
 
 -- Items one behind the other
 

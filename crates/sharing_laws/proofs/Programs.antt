@@ -1,12 +1,11 @@
 -- In what a well formed program becomes, both forms of each contract that members keep say the same.
-use Rattle.std.proofs.Common.{◌≡◌, ℕ, ◌+◌, Bool, true, None, Option, List, [], ◌∷◌, map, refl, sym, subst}
+use Rattle.std.proofs.Common.{◌≡◌, ℕ, ◌+◌, Bool, true, None, List, [], ◌∷◌, map, sym, subst}
 use Rattle.std.specs.List.{flat_map, AllByRecursion}
 use Rattle.pv_ast.specs.declared.Stmt.{Stmt}
 use Rattle.pv_ast.specs.declared.Member.{Member}
 use Rattle.pv_ast.specs.declared.Member.TheVariants as member
 use Rattle.pv_ast.specs.declared.Class.{Class}
 use Rattle.pv_ast.specs.declared.Program.{Program}
-use Rattle.pv_rules.specs.declared.fault.ShapeFault.{ShapeFault}
 use Rattle.pv_rules.specs.declared.standing.Spot.{Spot}
 use Rattle.pv_rules.specs.Scoping.{Visible, nothing_visible}
 use Rattle.pv_rules.specs.Parts.{Around}

@@ -1,5 +1,5 @@
 -- What the shape of an expression says of what it becomes: by its form, and where it is pure.
-use Rattle.std.proofs.Common.{◌≡◌, ℕ, ℤ, pos, ◌-ℤ◌, Bool, true, false, not, ◌&&◌, ◌||◌, Option, Some, None, is_some, List, map, refl, sym, ◌∙◌, ap, subst}
+use Rattle.std.proofs.Common.{◌≡◌, ℕ, ℤ, pos, ◌-ℤ◌, Bool, true, false, ◌&&◌, Option, Some, None, is_some, map, refl, sym, ◌∙◌, ap, subst}
 use Rattle.std.proofs.lemmas.Bool.{and_parts, both_ways, eqb-true}
 use Rattle.std.specs.Prelude.{nat_eq, option_map, if◌then◌else◌}
 use Rattle.pv_base.specs.declared.Name.{Name}
@@ -25,8 +25,9 @@ use Rattle.pv_meaning.specs.Evaluation.{Scene}
 use Rattle.pv_meaning.specs.Meeting.{Sight}
 use Rattle.pv_picks.specs.Operations.{number, is_literal, plainly, compared, computed, manner_of, operation}
 use Rattle.pv_picks.specs.Names.{named}
-use Rattle.pv_picks.specs.Pieces.{Piece, KindPiece, EachPiece, Layer, piece_in_kind, piece_in_expr, piece_of, piece_of_kind, piece_of_each, shapes_in, conjunct, is_fact}
+use Rattle.pv_picks.specs.Pieces.{Piece, KindPiece, EachPiece, Layer, piece_in_kind, piece_in_expr, piece_of, piece_of_kind, piece_of_each, shapes_in, is_fact}
 use Rattle.pv_picks.proofs.Layers.{layer_of, kind_at_roll, each_at_roll, expr_at_roll}
+use Rattle.sharing_laws.proofs.Typed.{variable_pure}
 use Rattle.sharing_laws.proofs.Evaluating.{Reads, operation_read, variable_read, no_shift, lowered_shift}
 
 abbrev pub type_of : Option Declared → Option PvType
@@ -187,10 +188,6 @@ pure_first l n h = first_some (item_of_pure (shapes.facts_in_kind (shapes_in l) 
 
 -- Names
 
-variable_pure : (b : Bool) → (facts_of_variable b).pure ≡ true
-variable_pure true = refl
-variable_pure false = refl
-
 number_named : (a : Around) (span : Span) (name : Name) (o : Option Declared) → type_of o ≡ Some Int → (named a span name o ≡ core.Variable name) × ((seen_of_name a name o).typing ≡ Typed Int)
 number_named a span name None k = absurd cc
 number_named a span name (Some d) k = let same : d.kind ≡ Int = cc in (refl, ap Typed same)
@@ -263,7 +260,7 @@ operator_other op.Or f g = refl
 operator_other op.Implies f g = refl
 operator_other op.Star f g = refl
 
-taken : {A : Type 0} (b : Bool) (x y : A) → b ≡ true → (if b then x else y) ≡ x
+pub taken : {A : Type 0} (b : Bool) (x y : A) → b ≡ true → (if b then x else y) ≡ x
 taken true x y h = refl
 taken false x y h = absurd cc
 

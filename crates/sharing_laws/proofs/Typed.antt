@@ -1,5 +1,5 @@
 -- An expression without a fault that is no truth value is pure by its shape.
-use Rattle.std.proofs.Common.{◌≡◌, ℕ, Bool, true, false, not, ◌&&◌, Some, None, List, map, refl, sym, subst}
+use Rattle.std.proofs.Common.{◌≡◌, Bool, true, false, not, ◌&&◌, Some, None, List, map, refl, sym, subst}
 use Rattle.std.proofs.lemmas.Bool.{and_from}
 use Rattle.std.specs.Prelude.{nat_eq, if◌then◌else◌}
 use Rattle.pv_base.specs.declared.Span.{Span}
@@ -137,7 +137,7 @@ without = map-ExprKind Kinds Eaches Exprs ExprKind Each Expr (λ e. e.0) (λ e. 
 abbrev LayerLaw : Layer → Type 0
 LayerLaw l = KindLaw (piece_in_kind l)
 
-variable_pure : (b : Bool) → (facts_of_variable b).pure ≡ true
+pub variable_pure : (b : Bool) → (facts_of_variable b).pure ≡ true
 variable_pure true = refl
 variable_pure false = refl
 
