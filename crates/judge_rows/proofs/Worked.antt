@@ -1,7 +1,9 @@
 -- The worked cases hold by computing.
 use Rattle.std.proofs.Common.{refl}
 use Rattle.judge_rows.specs.Cases.{Counting, Writing, Aliasing, Invariants, Shifting, Copying, Adding, Reading, Keeping, Folding, Filling, Showing, Testing}
-use Rattle.judge_rows.specs.Patterns.{Parting}
+use Rattle.judge_rows.specs.Marks.{Marks}
+use Rattle.judge_rows.specs.Undeclared.{Undeclared}
+use Rattle.judge_rows.specs.Patterns.{Parting, PartingUses}
 
 pub counting : Counting
 counting = (refl, refl, refl, refl, refl, refl, refl, refl)
@@ -44,3 +46,12 @@ testing = (refl, refl, refl, refl, refl, refl, refl, refl)
 
 pub parting : Parting
 parting = (refl, refl, refl, refl, refl)
+
+pub parting_uses : PartingUses
+parting_uses = (refl, refl, refl, refl, refl, refl)
+
+pub marks : Marks
+marks = (refl, refl, refl, refl, refl, refl, refl, refl)
+
+pub undeclared : Undeclared
+undeclared = (refl, refl, refl, refl, refl, refl, refl, refl, refl)

@@ -2,7 +2,10 @@
 #![tactic(auto)]
 
 ghost use Rattle.judge_rows.specs.Cases.{Counting, Writing, Aliasing, Invariants, Shifting, Copying, Adding, Reading, Keeping, Folding, Filling, Showing, Testing};
-ghost use Rattle.judge_rows.specs.Patterns.{Parting};
+ghost use Rattle.judge_rows.specs.Marks.{Marks};
+ghost use Rattle.judge_rows.specs.OldLengths.{OldLengths};
+ghost use Rattle.judge_rows.specs.Patterns.{Parting, PartingUses};
+ghost use Rattle.judge_rows.specs.Undeclared.{Undeclared};
 
 /// A field that is counted on, and the same by two where one is promised.
 pub fn counting()
@@ -72,4 +75,24 @@ pub fn testing()
 /// Evidence on whose patterns the order of bounds, a repeated use and the truth of a test tell apart what they decide.
 pub fn parting()
     ensures { Parting }
+{}
+
+/// Evidence on whose patterns the order of a use's arguments, a new array and the ends of one event tell apart what they decide.
+pub fn parting_uses()
+    ensures { PartingUses }
+{}
+
+/// A postcondition that speaks of the old length of a new array: no evidence makes the judge fail, and the return goes.
+pub fn old_lengths()
+    ensures { OldLengths }
+{}
+
+/// What is looked at around a mark.
+pub fn marks()
+    ensures { Marks }
+{}
+
+/// What isn't declared fails.
+pub fn undeclared()
+    ensures { Undeclared }
 {}

@@ -38,7 +38,14 @@ heap_trans {a} {b} {c} x y = let l = x.count in let m = y.count in record {
 }
 
 pub grows_self : (w : World) → Grows w w
-grows_self w = record { threads = omega arith; roles = λ j l. refl; blocks = omega arith; same = λ b l. same_self (w.blocks b); heap = heap_self w.heap }
+grows_self w =
+    record {
+      threads = omega arith;
+      roles = λ j l. refl;
+      blocks = omega arith;
+      same = λ b l. same_self (w.blocks b);
+      heap = heap_self w.heap;
+    }
 
 pub grows_trans : {u v w : World} → Grows u v → Grows v w → Grows u w
 grows_trans x y = let l = x.threads in let m = y.threads in let k = x.blocks in let n = y.blocks in record {
@@ -84,7 +91,8 @@ frames_lead w i frames = record {
 }
 
 pub heap_leads : (w : World) (h : Heap) → HeapGrows w.heap h → Grows w (with_heap w h)
-heap_leads w h g = record { threads = omega arith; roles = λ j l. refl; blocks = omega arith; same = λ b l. same_self (w.blocks b); heap = g }
+heap_leads w h g =
+    record { threads = omega arith; roles = λ j l. refl; blocks = omega arith; same = λ b l. same_self (w.blocks b); heap = g }
 
 pub thread_leads : (w : World) (t : Thread) → Grows w (with_thread w t)
 thread_leads w t = record {
@@ -100,14 +108,17 @@ message_leads w b label sender = record {
   threads = omega arith;
   roles = λ j l. refl;
   blocks = omega arith;
-  same = λ c l. kept_block b _ w.blocks (record { opener = refl; low = refl; high = refl; mode = refl; first = refl; team = refl }) c;
+  same =
+      λ c l. kept_block b _ w.blocks (record { opener = refl; low = refl; high = refl; mode = refl; first = refl; team = refl })
+      c;
   heap = heap_self w.heap;
 }
 
 not_yet : (w : World) (n j : ℕ) → j < w.count → (nat_le w.count j && nat_lt j n) ≡ false
 not_yet w n j l = rw (lt-leb w.count j l) refl
 
-pub members_lead : (w : World) (i : ℕ) (f : Frame) (team : Team) (body : Block) (mode : Mode) (low high : ℤ) → Grows w (with_members w i f team body mode low high)
+pub members_lead : (w : World) (i : ℕ) (f : Frame) (team : Team) (body : Block) (mode : Mode) (low high : ℤ)
+    → Grows w (with_members w i f team body mode low high)
 members_lead w i f team body mode low high = record {
   threads = omega arith;
   roles = λ j l. rw (not_yet w (w.count + width low high) j l) refl;

@@ -7,3 +7,5 @@ pub mod Standing
 pub mod Stands
 pub mod HeapSteps
 pub mod Typed
+pub mod Lengths
+pub mod Closing

@@ -1,13 +1,12 @@
 -- The mode says into which world a step leads, and nothing of whether it goes.
-use Rattle.std.proofs.Common.{◌≡◌, ℕ, Bool, true, false, Option, Some, None, List, [], ◌∷◌, refl}
+use Rattle.std.proofs.Common.{◌≡◌, ℕ, Bool, true, false, List, [], ◌∷◌, refl}
 use Rattle.std.specs.Prelude.{not}
-use Rattle.pv_base.specs.declared.Span.{Span}
 use Rattle.pv_meaning.specs.declared.check.Check.{Check}
 use Rattle.pv_meaning.specs.Core.{Program}
 use Rattle.pv_meaning.specs.Tasks.{Step, AtRead, AtWrite, AtLength, AtNewObject, AtNewArray, AtAssert, AtFold, AtHead, AtCall, AtAction, AtOpen, AtClose, AtArrive, AtLeave, AtSend, AtReceive, Task, Evaluate, EvaluateAll, Combine, Choose, Branch, Turn, Put, Drop, Give, Unfolded, Run, Stand, Resume}
-use Rattle.pv_meaning.specs.Frames.{Frame, sight_of, scene_of, second, top}
+use Rattle.pv_meaning.specs.Frames.{Frame, sight_of, body_scene, second, top}
 use Rattle.pv_meaning.specs.Values.{number_in}
-use Rattle.pv_meaning.specs.Meeting.{unmet_shared}
+use Rattle.pv_meaning.specs.Meeting.{Finding, AllMet, FirstUnmet, unmet_shared}
 use Rattle.pv_meaning.specs.Worlds.{Mode, Free, World, is_held_back}
 use Rattle.pv_meaning.specs.Steps.{Result, needs_met, waits_unless, act_step, act_tasks, act_frames, act}
 use Rattle.pv_meaning.specs.Safety.{Event, is_able, may_step, world_after, happens}
@@ -19,16 +18,18 @@ alike_self Result.Waits = tt
 alike_self Result.Ended = tt
 alike_self (Result.Wrong named span) = (refl, refl)
 
-alike_met : (u : Option Span) (named : Check) (v w : World) → AreAlike (needs_met u named (Result.Went v)) (needs_met u named (Result.Went w))
-alike_met None named v w = tt
-alike_met (Some span) named v w = (refl, refl)
+alike_met : (u : Finding) (named : Check) (v w : World)
+    → AreAlike (needs_met u named (Result.Went v)) (needs_met u named (Result.Went w))
+alike_met AllMet named v w = tt
+alike_met (FirstUnmet span) named v w = (refl, refl)
 
 alike_waits : (b : Bool) (r s : Result) → AreAlike r s → AreAlike (waits_unless b r) (waits_unless b s)
 alike_waits true r s h = h
 alike_waits false r s h = tt
 
 module _ (p : Program) (w : World) (i : ℕ) (f : Frame) (below : List Frame) (m n : Mode) where
-  alike_step : (step : Step) (rest : List Task) → AreAlike (act_step p w i f below m step rest) (act_step p w i f below n step rest)
+  alike_step : (step : Step) (rest : List Task)
+      → AreAlike (act_step p w i f below m step rest) (act_step p w i f below n step rest)
   alike_step (AtRead spot span) rest = alike_self _
   alike_step (AtWrite spot span) rest = alike_self _
   alike_step (AtLength type span) rest = alike_self _
@@ -40,12 +41,13 @@ module _ (p : Program) (w : World) (i : ℕ) (f : Frame) (below : List Frame) (m
   alike_step (AtCall class method count span) rest = alike_self _
   alike_step (AtAction action class span) rest = alike_self _
   alike_step (AtOpen team body) rest =
-      alike_met (unmet_shared (sight_of w.heap f) (scene_of f) team.variable (number_in (second f.values)) (number_in (top f.values)) team.shared.each_before) _ _ _
+      alike_met (unmet_shared (sight_of w.heap f) (body_scene f) team.variable (number_in (second f.values))
+      (number_in (top f.values)) team.shared.each_before) _ _ _
   alike_step (AtClose block) rest = alike_self _
-  alike_step (AtArrive barrier) rest = alike_self _
-  alike_step (AtLeave barrier) rest = alike_self _
-  alike_step (AtSend message) rest = alike_self _
-  alike_step (AtReceive message) rest = alike_self _
+  alike_step (AtArrive barrier span) rest = alike_self _
+  alike_step (AtLeave barrier span) rest = alike_self _
+  alike_step (AtSend message span) rest = alike_self _
+  alike_step (AtReceive message span) rest = alike_self _
 
   alike_tasks : (ts : List Task) → AreAlike (act_tasks p w i f below m ts) (act_tasks p w i f below n ts)
   alike_tasks [] = alike_self _
@@ -63,7 +65,8 @@ module _ (p : Program) (w : World) (i : ℕ) (f : Frame) (below : List Frame) (m
   alike_tasks (Run b ∷ ts) = tt
   alike_tasks (Resume class method object arguments ∷ ts) = tt
 
-alike_frames : (p : Program) (w : World) (i : ℕ) (m n : Mode) (fs : List Frame) → AreAlike (act_frames p w m i fs) (act_frames p w n i fs)
+alike_frames : (p : Program) (w : World) (i : ℕ) (m n : Mode) (fs : List Frame)
+    → AreAlike (act_frames p w m i fs) (act_frames p w n i fs)
 alike_frames p w i m n [] = tt
 alike_frames p w i m n (f ∷ below) = alike_waits (not (is_held_back w i)) _ _ (alike_tasks p w i f below m n f.tasks)
 
@@ -81,4 +84,5 @@ unable w (Result.Went v) Result.Ended a h = absurd a
 unable w (Result.Went v) (Result.Wrong named span) a h = absurd a
 
 pub waiting-same : (p : Program) (w : World) (event : Event) → may_step p w event.thread ≡ false → happens p event w ≡ w
-waiting-same p w event h = unable w (act p w event.mode event.thread) (act p w Free event.thread) (act-alike p w event.mode Free event.thread) h
+waiting-same p w event h =
+    unable w (act p w event.mode event.thread) (act p w Free event.thread) (act-alike p w event.mode Free event.thread) h

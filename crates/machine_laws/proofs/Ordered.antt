@@ -1,15 +1,14 @@
 -- The ordered run of a loop is one: where two of them end, they end in one world.
-use Rattle.std.proofs.Common.{◌≡◌, ℕ, zero, suc, ◌+◌, ◌-◌, ◌<◌, ◌≤◌, ℤ, pos, Bool, true, false, Option, Some, None, List, [], ◌∷◌, map, refl, sym, ap, subst, arith, ◌∙◌, ◌⊎◌, inl, inr}
+use Rattle.std.proofs.Common.{◌≡◌, ℕ, zero, suc, ◌+◌, ◌-◌, ◌<◌, ◌≤◌, ℤ, pos, Bool, true, false, List, [], ◌∷◌, map, refl, sym, ap, subst, arith, ◌∙◌, ◌⊎◌, inl, inr}
 use Rattle.std.specs.Prelude.{not, nat_lt, ◌&&◌, if◌then◌else◌, ◌+ℤ◌}
 use Rattle.std.proofs.lemmas.Bool.{eq-eqb, le-leb, lt-ltb, ltb-true, ltb-false}
-use Rattle.pv_base.specs.declared.Span.{Span}
 use Rattle.pv_meaning.specs.declared.check.Check.{Check}
 use Rattle.pv_meaning.specs.declared.check.Check.TheVariants as check
 use Rattle.pv_meaning.specs.Core.{Team, Block, Program}
 use Rattle.pv_meaning.specs.Values.{number_in, width}
-use Rattle.pv_meaning.specs.Meeting.{unmet_shared}
+use Rattle.pv_meaning.specs.Meeting.{Finding, AllMet, FirstUnmet, unmet_shared}
 use Rattle.pv_meaning.specs.Tasks.{AtOpen, AtClose, Task, Stand}
-use Rattle.pv_meaning.specs.Frames.{Frame, top, second, pops, sight_of, scene_of}
+use Rattle.pv_meaning.specs.Frames.{Frame, top, second, pops, sight_of, body_scene}
 use Rattle.pv_meaning.specs.Worlds.{Role, MemberOf, Mode, Free, Ordered, World, with_members, has_no_frame, has_ended, each_from, waits_in, waits_as, is_held_back}
 use Rattle.pv_meaning.specs.Steps.{Result, needs_met, waits_unless, goes, act_open, act_tasks, act_frames, act}
 use Rattle.pv_meaning.specs.Safety.{Event, world_after, happens, run_events}
@@ -26,13 +25,20 @@ record InOrder (lo hi b : ℕ) (v : World) : Type 0 where
   member : (j : ℕ) → lo ≤ j → j < hi → (position : ℤ) × ((v.threads j).role ≡ MemberOf b position)
 
 in_order_grows : (lo hi b : ℕ) (v u : World) → InOrder lo hi b v → Grows v u → InOrder lo hi b u
-in_order_grows lo hi b v u o g = let s = g.same b o.block in let l = g.threads in let m = g.blocks in let c = o.count in let d = o.block in record {
-  count = omega arith;
-  block = omega arith;
-  mode = s.mode ∙ o.mode;
-  first = s.first ∙ o.first;
-  member = λ j x y. let found = o.member j x y in (found.0, g.roles j (omega arith) ∙ found.1);
-}
+in_order_grows lo hi b v u o g =
+    let s = g.same b o.block in
+    let l = g.threads in
+    let m = g.blocks in
+    let c = o.count in
+    let d = o.block in
+    record {
+      count = omega arith;
+      block = omega arith;
+      mode = s.mode ∙ o.mode;
+      first = s.first ∙ o.first;
+      member = λ j x y. let found = o.member j x y in
+          (found.0, g.roles j (omega arith) ∙ found.1);
+    }
 
 both_true : (a b : Bool) → (a && b) ≡ true → (a ≡ true) × (b ≡ true)
 both_true true b h = (refl, h)
@@ -47,24 +53,30 @@ first_or_above test first j here l more = go (nat_lt first j) refl
   where
     go : (t : Bool) → nat_lt first j ≡ t → test j ≡ true
     go true e = let k : first < j = ltb-true first j e in more (omega arith)
-    go false e = let k : j ≤ first = ltb-false first j e in let s : first ≡ j = omega arith in subst (λ (n : ℕ). test n ≡ true) s here
+    go false e =
+        let k : j ≤ first = ltb-false first j e in let s : first ≡ j = omega arith in subst (λ (n : ℕ). test n ≡ true) s here
 
-each_from-true : (test : ℕ → Bool) (first n : ℕ) → each_from test first n ≡ true → (j : ℕ) → first ≤ j → j < first + n → test j ≡ true
+pub each_from-true : (test : ℕ → Bool) (first n : ℕ) → each_from test first n ≡ true → (j : ℕ) → first ≤ j → j < first + n
+    → test j ≡ true
 each_from-true test first zero h j a b = absurd (omega arith)
 each_from-true test first (suc n) h j a b =
     let s = both_true (test first) (each_from test (suc first) n) h in
     first_or_above test first j s.0 a (λ l. each_from-true test (suc first) n s.1 j l (omega arith))
 
 -- what isn't held back finds all lower members ended
-lower_ended : (lo hi b : ℕ) (v : World) → InOrder lo hi b v → (k : ℕ) → lo ≤ k → k < hi → is_held_back v k ≡ false → (j : ℕ) → lo ≤ j → j < k → has_ended v j ≡ true
+lower_ended : (lo hi b : ℕ) (v : World) → InOrder lo hi b v → (k : ℕ) → lo ≤ k → k < hi → is_held_back v k ≡ false → (j : ℕ)
+    → lo ≤ j → j < k → has_ended v j ≡ true
 lower_ended lo hi b v o k a c h j x y =
     let found = o.member k a c in
     let free : waits_as v k (MemberOf b found.0) ≡ false = subst (λ (r : Role). waits_as v k r ≡ false) found.1 h in
-    let ordered : waits_in v k (v.blocks b) Ordered ≡ false = subst (λ (m : Mode). waits_in v k (v.blocks b) m ≡ false) o.mode free in
-    let from : not (each_from (has_ended v) lo (k - lo)) ≡ false = subst (λ (n : ℕ). not (each_from (has_ended v) n (k - n)) ≡ false) o.first ordered in
+    let ordered : waits_in v k (v.blocks b) Ordered ≡ false =
+    subst (λ (m : Mode). waits_in v k (v.blocks b) m ≡ false) o.mode free in
+    let from : not (each_from (has_ended v) lo (k - lo)) ≡ false =
+    subst (λ (n : ℕ). not (each_from (has_ended v) n (k - n)) ≡ false) o.first ordered in
     each_from-true (has_ended v) lo (k - lo) (not_false (each_from (has_ended v) lo (k - lo)) from) j x (omega arith)
 
-ended_frames : (p : Program) (v : World) (m : Mode) (j : ℕ) (fs : List Frame) → has_no_frame fs ≡ true → act_frames p v m j fs ≡ Result.Ended
+ended_frames : (p : Program) (v : World) (m : Mode) (j : ℕ) (fs : List Frame) → has_no_frame fs ≡ true
+    → act_frames p v m j fs ≡ Result.Ended
 ended_frames p v m j [] h = refl
 ended_frames p v m j (f ∷ below) h = absurd (cc)
 
@@ -75,7 +87,8 @@ free_of : (t : Bool) (r : Result) (u : World) → waits_unless (not t) r ≡ Res
 free_of true r u h = absurd (cc)
 free_of false r u h = refl
 
-free_frames : (p : Program) (v u : World) (m : Mode) (j : ℕ) (fs : List Frame) → act_frames p v m j fs ≡ Result.Went u → is_held_back v j ≡ false
+free_frames : (p : Program) (v u : World) (m : Mode) (j : ℕ) (fs : List Frame) → act_frames p v m j fs ≡ Result.Went u
+    → is_held_back v j ≡ false
 free_frames p v u m j [] h = absurd (cc)
 free_frames p v u m j (f ∷ below) h = free_of (is_held_back v j) (act_tasks p v j f below m f.tasks) u h
 
@@ -125,7 +138,8 @@ stays p lo hi (j ∷ js) v within done =
     subst (λ (u : World). run p js u ≡ v) (sym same) (stays p lo hi js v within.1 done)
 
 step_keeps : (p : Program) (lo hi b : ℕ) (v : World) (j : ℕ) → InOrder lo hi b v → InOrder lo hi b (happens p (ordered j) v)
-step_keeps p lo hi b v j o = in_order_grows lo hi b v (happens p (ordered j) v) o (world_after-grows v (act p v Ordered j) (act-leads p v Ordered j))
+step_keeps p lo hi b v j o =
+    in_order_grows lo hi b v (happens p (ordered j) v) o (world_after-grows v (act p v Ordered j) (act-leads p v Ordered j))
 
 -- that runs of this order, from wherever they start, end as others do
 abbrev EndsAlike : Program → ℕ → ℕ → ℕ → List ℕ → Type 0
@@ -135,19 +149,23 @@ EndsAlike p lo hi b js = (ks : List ℕ) (v : World) → InOrder lo hi b v → A
 -- after a step of j, against an order that may begin with steps that don't go
 after_step : (p : Program) (lo hi b j : ℕ) (js : List ℕ) → EndsAlike p lo hi b js → (ks : List ℕ) (v : World) → InOrder lo hi b v
     → (lo ≤ j) × (j < hi) → AreIn lo hi js → AreIn lo hi ks → act p v Ordered j ≡ Result.Went (happens p (ordered j) v)
-    → AllEnded lo hi (run p js (happens p (ordered j) v)) → AllEnded lo hi (run p ks v) → run p js (happens p (ordered j) v) ≡ run p ks v
+    → AllEnded lo hi (run p js (happens p (ordered j) v)) → AllEnded lo hi (run p ks v)
+    → run p js (happens p (ordered j) v) ≡ run p ks v
 after_step p lo hi b j js ih [] v o h within others goes d e = let done = ended_act p v Ordered j (e j h) in absurd (cc)
 after_step p lo hi b j js ih (k ∷ ks) v o h within others goes d e =
     decide (still_or_went v (act p v Ordered k)) (λ w. after_step p lo hi b j js ih ks v o h within others.1 goes d w)
   where
     decide : (world_after v (act p v Ordered k) ≡ v) ⊎ (act p v Ordered k ≡ Result.Went (world_after v (act p v Ordered k)))
-        → (AllEnded lo hi (run p ks v) → run p js (happens p (ordered j) v) ≡ run p ks v) → run p js (happens p (ordered j) v) ≡ run p ks (happens p (ordered k) v)
+        → (AllEnded lo hi (run p ks v) → run p js (happens p (ordered j) v) ≡ run p ks v)
+        → run p js (happens p (ordered j) v) ≡ run p ks (happens p (ordered k) v)
     decide (inl same) again =
         let all : AllEnded lo hi (run p ks v) = subst (λ (u : World). AllEnded lo hi (run p ks u)) same e in
         subst (λ (u : World). run p js (happens p (ordered j) v) ≡ run p ks u) (sym same) (again all)
     decide (inr went) again =
-        let one : j ≡ k = one_goes p lo hi b v (happens p (ordered j) v) (happens p (ordered k) v) o j k h.0 h.1 others.0.0 others.0.1 goes went in
-        let all : AllEnded lo hi (run p ks (happens p (ordered j) v)) = subst (λ (n : ℕ). AllEnded lo hi (run p ks (happens p (ordered n) v))) (sym one) e in
+        let one : j ≡ k = one_goes p lo hi b v (happens p (ordered j) v)
+        (happens p (ordered k) v) o j k h.0 h.1 others.0.0 others.0.1 goes went in
+        let all : AllEnded lo hi (run p ks (happens p (ordered j) v)) =
+        subst (λ (n : ℕ). AllEnded lo hi (run p ks (happens p (ordered n) v))) (sym one) e in
         subst (λ (n : ℕ). run p js (happens p (ordered j) v) ≡ run p ks (happens p (ordered n) v)) one
         (ih ks (happens p (ordered j) v) (step_keeps p lo hi b v j o) within others.1 d all)
 
@@ -176,10 +194,11 @@ opened_in_order w i f team body mode low high ordered = record {
 OpensInOrder : World → World → Type 0
 OpensInOrder w v = InOrder w.count v.count w.block_count v
 
-met_opens : (u : Option Span) (named : Check) (w x v : World) → needs_met u named (Result.Went x) ≡ Result.Went v → OpensInOrder w x → OpensInOrder w v
+met_opens : (u : Finding) (named : Check) (w x v : World) → needs_met u named (Result.Went x) ≡ Result.Went v → OpensInOrder w x
+    → OpensInOrder w v
 unfolding OpensInOrder
-met_opens None named w x v h o = let e : x ≡ v = cc in subst (λ (z : World). InOrder w.count z.count w.block_count z) e o
-met_opens (Some span) named w x v h o = absurd (cc)
+met_opens AllMet named w x v h o = let e : x ≡ v = cc in subst (λ (z : World). InOrder w.count z.count w.block_count z) e o
+met_opens (FirstUnmet span) named w x v h o = absurd (cc)
 
 waits_goes : (b : Bool) (r : Result) (v : World) → waits_unless b r ≡ Result.Went v → r ≡ Result.Went v
 waits_goes true r v h = h
@@ -193,33 +212,43 @@ module _ (p : Program) (w v : World) (i : ℕ) (f : Frame) (below : List Frame) 
       let g : Frame = pops 2 f (Stand (AtClose w.block_count) ∷ rest) in
       let mode : Mode = if team.counted then Ordered else Free in
       let is : mode ≡ Ordered = ap (λ (b : Bool). if b then Ordered else Free) counted in
-      met_opens (unmet_shared (sight_of w.heap f) (scene_of f) team.variable low high team.shared.each_before) check.BlockRequires w
+      met_opens (unmet_shared (sight_of w.heap f) (body_scene f) team.variable low high team.shared.each_before)
+      check.BlockRequires w
       (with_members (goes p w i f below g) i f team body mode low high) v h
       (opened_in_order (goes p w i f below g) i f team body mode low high is)
 
   tasks_open : (ts : List Task) → opens_loop ts ≡ true → act_tasks p w i f below Ordered ts ≡ Result.Went v → OpensInOrder w v
-  tasks_open (Stand (AtOpen team body) ∷ rest) counted h = open_opens team body (number_in (second f.values)) (number_in (top f.values)) rest counted h
+  tasks_open (Stand (AtOpen team body) ∷ rest) counted h =
+      open_opens team body (number_in (second f.values)) (number_in (top f.values)) rest counted h
   tasks_open _ counted h = absurd (cc)
 
-frames_open : (p : Program) (w v : World) (i : ℕ) (fs : List Frame) → frames_at_loop fs ≡ true → act_frames p w Ordered i fs ≡ Result.Went v → OpensInOrder w v
+frames_open : (p : Program) (w v : World) (i : ℕ) (fs : List Frame) → frames_at_loop fs ≡ true
+    → act_frames p w Ordered i fs ≡ Result.Went v → OpensInOrder w v
 frames_open p w v i [] at h = absurd (cc)
-frames_open p w v i (f ∷ below) at h = tasks_open p w v i f below f.tasks at (waits_goes (not (is_held_back w i)) (act_tasks p w i f below Ordered f.tasks) v h)
+frames_open p w v i (f ∷ below) at h =
+    tasks_open p w v i f below f.tasks at (waits_goes (not (is_held_back w i)) (act_tasks p w i f below Ordered f.tasks) v h)
 
 are_in : (w v : World) (js : List ℕ) → AreBetween w v js → AreIn w.count v.count js
 are_in w v [] h = tt
 are_in w v (j ∷ js) h = (h.0, are_in w v js h.1)
 
-one_end : (p : Program) (w opened one other : World) (js ks : List ℕ) → OpensInOrder w opened → AreBetween w opened js → AreBetween w opened ks
-    → run p js opened ≡ one → run p ks opened ≡ other → AllEnded w.count opened.count one → AllEnded w.count opened.count other → one ≡ other
+one_end : (p : Program) (w opened one other : World) (js ks : List ℕ) → OpensInOrder w opened → AreBetween w opened js
+    → AreBetween w opened ks
+    → run p js opened ≡ one → run p ks opened ≡ other → AllEnded w.count opened.count one → AllEnded w.count opened.count other
+    → one ≡ other
 unfolding OpensInOrder
 one_end p w opened one other js ks o a b c d x y =
-    let first : AllEnded w.count opened.count (run p js opened) = subst (λ (v : World). AllEnded w.count opened.count v) (sym c) x in
-    let second : AllEnded w.count opened.count (run p ks opened) = subst (λ (v : World). AllEnded w.count opened.count v) (sym d) y in
-    let e = ends_alike p w.count opened.count w.block_count js ks opened o (are_in w opened js a) (are_in w opened ks b) first second in
+    let first : AllEnded w.count opened.count (run p js opened) =
+    subst (λ (v : World). AllEnded w.count opened.count v) (sym c) x in
+    let second : AllEnded w.count opened.count (run p ks opened) =
+    subst (λ (v : World). AllEnded w.count opened.count v) (sym d) y in
+    let e = ends_alike p w.count opened.count w.block_count js ks opened o (are_in w opened js a)
+    (are_in w opened ks b) first second in
     sym c ∙ (e ∙ d)
 
 -- two ordered runs of a loop that end have one end
-pub ordered_runs-same : (p : Program) (w : World) (i : ℕ) (one other : World) → StandsAtLoop w i → IsLoopRun p w i Ordered one → IsLoopRun p w i Ordered other → one ≡ other
+pub ordered_runs-same : (p : Program) (w : World) (i : ℕ) (one other : World) → StandsAtLoop w i → IsLoopRun p w i Ordered one
+    → IsLoopRun p w i Ordered other → one ≡ other
 ordered_runs-same p w i one other at r s =
     let a : act p w Ordered i ≡ Result.Went r.opened = r.opens in
     let b : act p w Ordered i ≡ Result.Went s.opened = s.opens in

@@ -53,7 +53,8 @@ put-free (ToElement type array index span) ts h = h
 
 statement-free : (s : Statement) (ts : List Task) → are_free ts ≡ true → are_free (tasks_of_statement s ts) ≡ true
 statement-free (Assign target right span) ts h =
-    target-free target (tasks_of_right right span (put_into target ∷ ts)) (right-free right span (put_into target ∷ ts) (put-free target ts h))
+    target-free target (tasks_of_right right span (put_into target ∷ ts))
+    (right-free right span (put_into target ∷ ts) (put-free target ts h))
 statement-free (If condition a b) ts h = h
 statement-free (While assigned invariant condition body span) ts h = h
 statement-free (Members team body span) ts h = h
@@ -67,7 +68,8 @@ statement-free (Receive message span) ts h = h
 statement-free (Return None span) ts h = h
 statement-free (Return (Some e) span) ts h = h
 
-turn-free : (b : Bool) (body : Block) (back : Step) (ts : List Task) → are_free ts ≡ true → are_free (if b then Run body ∷ Stand back ∷ ts else ts) ≡ true
+turn-free : (b : Bool) (body : Block) (back : Step) (ts : List Task) → are_free ts ≡ true
+    → are_free (if b then Run body ∷ Stand back ∷ ts else ts) ≡ true
 turn-free true body back ts h = h
 turn-free false body back ts h = h
 
@@ -99,15 +101,19 @@ two_of : (a b : Bool) → (a && b) ≡ true → (a ≡ true) × (b ≡ true)
 two_of true b h = (refl, h)
 two_of false b h = absurd (cc)
 
-pub settled-stands : (f : Frame) (below : List Frame) → are_free f.tasks ≡ true → all_await below ≡ true → is_standing (settled f ∷ below) ≡ true
-settled-stands f below h k = three (are_free (settled f).tasks) (is_at_rest (settled f)) (all_await below) (settled-free f h) (settled-rest f) k
+pub settled-stands : (f : Frame) (below : List Frame) → are_free f.tasks ≡ true → all_await below ≡ true
+    → is_standing (settled f ∷ below) ≡ true
+settled-stands f below h k =
+    three (are_free (settled f).tasks) (is_at_rest (settled f)) (all_await below) (settled-free f h) (settled-rest f) k
 
-pub stands-free : (f : Frame) (below : List Frame) → is_standing (f ∷ below) ≡ true → (are_free f.tasks ≡ true) × (all_await below ≡ true)
+pub stands-free : (f : Frame) (below : List Frame) → is_standing (f ∷ below) ≡ true → (are_free f.tasks ≡ true)
+    × (all_await below ≡ true)
 stands-free f below h =
     let a = two_of (are_free f.tasks && is_at_rest f) (all_await below) h in
     let b = two_of (are_free f.tasks) (is_at_rest f) a.0 in (b.0, a.1)
 
-pub awaits-two : (f : Frame) (below : List Frame) → all_await (f ∷ below) ≡ true → (await f.tasks ≡ true) × (all_await below ≡ true)
+pub awaits-two : (f : Frame) (below : List Frame) → all_await (f ∷ below) ≡ true → (await f.tasks ≡ true)
+    × (all_await below ≡ true)
 awaits-two f below h = two_of (await f.tasks) (all_await below) h
 
 pub drop-free : (ts : List Task) → are_free ts ≡ true → are_free (drop 1 ts) ≡ true
@@ -130,7 +136,8 @@ pub awaited-free : (ts : List Task) → await ts ≡ true → are_free (drop 1 t
 awaited-free (Resume class method object arguments ∷ ts) h = h
 awaited-free _ h = absurd (cc)
 
-pub entered-stands : (heap : Heap) (class : Name) (m : Method) (object : ℕ) (arguments : List Value) (below : List Frame) → all_await below ≡ true
+pub entered-stands : (heap : Heap) (class : Name) (m : Method) (object : ℕ) (arguments : List Value) (below : List Frame)
+    → all_await below ≡ true
     → is_standing (entered heap class m object arguments ∷ below) ≡ true
 entered-stands heap class m object arguments below h =
     let f : Frame = record {
@@ -146,7 +153,8 @@ entered-stands heap class m object arguments below h =
     } in
     settled-stands f below refl h
 
-pub member-stands : (opener : Frame) (team : Team) (body : Block) (position : ℤ) → is_standing (member_of opener team body position ∷ []) ≡ true
+pub member-stands : (opener : Frame) (team : Team) (body : Block) (position : ℤ)
+    → is_standing (member_of opener team body position ∷ []) ≡ true
 member-stands opener team body position =
     let f : Frame = record opener {
       begun = at_position opener.variables team.variable position;
@@ -165,13 +173,15 @@ put_stands n t f h k j = go (nat_eq j n) refl
     go true e = rw e h
     go false e = rw e (k j)
 
-pub frames_stand : (w : World) (i : ℕ) (frames : List Frame) → AreStanding w → is_standing frames ≡ true → AreStanding (with_frames w i frames)
+pub frames_stand : (w : World) (i : ℕ) (frames : List Frame) → AreStanding w → is_standing frames ≡ true
+    → AreStanding (with_frames w i frames)
 frames_stand w i frames s h = put_stands i (record { role = (w.threads i).role; frames = frames }) w.threads h s
 
 pub thread_stands : (w : World) (t : Thread) → AreStanding w → is_standing t.frames ≡ true → AreStanding (with_thread w t)
 thread_stands w t s h = put_stands w.count t w.threads h s
 
-chosen_stands : (b : Bool) (t u : Thread) → is_standing t.frames ≡ true → is_standing u.frames ≡ true → is_standing (if b then t else u).frames ≡ true
+chosen_stands : (b : Bool) (t u : Thread) → is_standing t.frames ≡ true → is_standing u.frames ≡ true
+    → is_standing (if b then t else u).frames ≡ true
 chosen_stands true t u h k = h
 chosen_stands false t u h k = k
 
@@ -183,7 +193,8 @@ members_stand w i f team body mode low high s j =
 
 behind_stands : (frames : List Frame) → is_standing frames ≡ true → is_standing (frames_behind frames) ≡ true
 behind_stands [] h = refl
-behind_stands (f ∷ below) h = let a = stands-free f below h in settled-stands (goes_on f (drop 1 f.tasks)) below (drop-free f.tasks a.0) a.1
+behind_stands (f ∷ below) h =
+    let a = stands-free f below h in settled-stands (goes_on f (drop 1 f.tasks)) below (drop-free f.tasks a.0) a.1
 
 pub all_behind_stand : (w : World) (block : OpenBlock) → AreStanding w → AreStanding (all_behind w block)
 all_behind_stand w block s j =

@@ -4,12 +4,14 @@ use Rattle.std.specs.Prelude.{if◌then◌else◌}
 use Rattle.pv_base.specs.declared.Span.{Span}
 use Rattle.pv_meaning.specs.declared.check.Check.TheVariants as check
 use Rattle.pv_meaning.specs.Core.{Expression, Constant, This, Result, Variable, Field, Element, Length, Not, Compute, Compare, Equal, And, Or, Implies, Old, Target, Nowhere, ToVariable, ToField, ToElement, Right, Value', Call, NewObject, NewArray, Statement, Assign, If, While, Members, Meet, Act, Fold, Unfold, Assert, Send, Receive, Return, Block, Stop, Then}
-use Rattle.pv_meaning.specs.Tasks.{Step, AtHead, Task, Evaluate, EvaluateAll, Combine, Choose, Branch, Turn, Put, Drop, Give, Unfolded, Run, Stand, Resume, put_into, tasks_of_target, tasks_of_right, tasks_of_statement, size_of_expression, size_of_target, size_of_right, size_of_statement, size_of_block, size_of_task, size_of_tasks}
+use Rattle.pv_meaning.specs.Tasks.{Step, AtHead, Task, Evaluate, EvaluateAll, Combine, Choose, Branch, Turn, Put, Drop, Give, Unfolded, Run, Stand, Resume, put_into, tasks_of_target, tasks_of_right, tasks_of_statement}
+use Rattle.pv_meaning.specs.Measures.{size_of_expression, size_of_target, size_of_right, size_of_statement, size_of_block, size_of_task, size_of_tasks}
 use Rattle.pv_meaning.specs.Frames.{Frame, is_true, evaluated, worked, after_work, settled}
 use Rattle.machine_laws.specs.Rest.{are_at_rest, is_at_rest}
 
 -- an expression leaves less than itself
-pub evaluated-less : (f : Frame) (e : Expression) (ts : List Task) → size_of_tasks (evaluated f e ts).tasks < size_of_expression e + size_of_tasks ts
+pub evaluated-less : (f : Frame) (e : Expression) (ts : List Task)
+    → size_of_tasks (evaluated f e ts).tasks < size_of_expression e + size_of_tasks ts
 evaluated-less f (Constant v) ts = omega arith
 evaluated-less f This ts = omega arith
 evaluated-less f Result ts = omega arith
@@ -26,20 +28,23 @@ evaluated-less f (Or a b) ts = omega arith
 evaluated-less f (Implies a b) ts = omega arith
 evaluated-less f (Old e) ts = omega arith
 
-target-less : (target : Target) (ts : List Task) → size_of_tasks (tasks_of_target target ts) + size_of_task (put_into target) ≤ size_of_target target + size_of_tasks ts
+target-less : (target : Target) (ts : List Task)
+    → size_of_tasks (tasks_of_target target ts) + size_of_task (put_into target) ≤ size_of_target target + size_of_tasks ts
 target-less Nowhere ts = omega arith
 target-less (ToVariable name) ts = omega arith
 target-less (ToField object class name span) ts = omega arith
 target-less (ToElement type array index span) ts = omega arith
 
-right-size : (right : Right) (span : Span) (ts : List Task) → size_of_tasks (tasks_of_right right span ts) ≡ size_of_right right + size_of_tasks ts
+right-size : (right : Right) (span : Span) (ts : List Task)
+    → size_of_tasks (tasks_of_right right span ts) ≡ size_of_right right + size_of_tasks ts
 right-size (Value' e) span ts = omega arith
 right-size (Call class method object arguments) span ts = omega arith
 right-size (NewObject class) span ts = omega arith
 right-size (NewArray type size) span ts = omega arith
 
 -- a statement leaves no more than itself
-pub statement-less : (s : Statement) (ts : List Task) → size_of_tasks (tasks_of_statement s ts) ≤ size_of_statement s + size_of_tasks ts
+pub statement-less : (s : Statement) (ts : List Task)
+    → size_of_tasks (tasks_of_statement s ts) ≤ size_of_statement s + size_of_tasks ts
 statement-less (Assign target right span) ts =
     let a = right-size right span (put_into target ∷ ts) in
     let b = target-less target (tasks_of_right right span (put_into target ∷ ts)) in
@@ -57,7 +62,8 @@ statement-less (Receive message span) ts = omega arith
 statement-less (Return None span) ts = omega arith
 statement-less (Return (Some e) span) ts = omega arith
 
-chosen-less : (b : Bool) (x y : Expression) → size_of_expression (if b then x else y) ≤ size_of_expression x + size_of_expression y
+chosen-less : (b : Bool) (x y : Expression)
+    → size_of_expression (if b then x else y) ≤ size_of_expression x + size_of_expression y
 chosen-less true x y = omega arith
 chosen-less false x y = omega arith
 
@@ -114,25 +120,33 @@ after_work-rest (suc n) f h = let e : worked f f.tasks ≡ f = worked-rest f f.t
 pub after_work-enough : (n : ℕ) (f : Frame) → size_of_tasks f.tasks ≤ n → is_at_rest (after_work n f) ≡ true
 after_work-enough n f h = go n f h (worked-less f f.tasks)
   where
-    go : (n : ℕ) (f : Frame) → size_of_tasks f.tasks ≤ n → (is_at_rest f ≡ true) ⊎ (size_of_tasks (worked f f.tasks).tasks < size_of_tasks f.tasks)
+    go : (n : ℕ) (f : Frame) → size_of_tasks f.tasks ≤ n
+        → (is_at_rest f ≡ true) ⊎ (size_of_tasks (worked f f.tasks).tasks < size_of_tasks f.tasks)
         → is_at_rest (after_work n f) ≡ true
     go n f h (inl r) = rw (after_work-rest n f r) r
     go zero f h (inr l) = absurd (omega arith)
-    go (suc n) f h (inr l) = let g = worked f f.tasks in go n (worked f f.tasks) (omega arith) (worked-less (worked f f.tasks) (worked f f.tasks).tasks)
+    go (suc n) f h (inr l) = let g = worked f f.tasks in
+        go n (worked f f.tasks) (omega arith) (worked-less (worked f f.tasks) (worked f f.tasks).tasks)
 
 pub settled-rest : (f : Frame) → is_at_rest (settled f) ≡ true
 settled-rest f = after_work-enough (size_of_tasks f.tasks) f (omega arith)
 
 -- and more than enough makes no difference
-pub after_work-agree : (n m : ℕ) (f : Frame) → size_of_tasks f.tasks ≤ n → size_of_tasks f.tasks ≤ m → after_work n f ≡ after_work m f
+pub after_work-agree : (n m : ℕ) (f : Frame) → size_of_tasks f.tasks ≤ n → size_of_tasks f.tasks ≤ m
+    → after_work n f ≡ after_work m f
 after_work-agree n m f h k = go n m f h k (worked-less f f.tasks)
   where
     go : (n m : ℕ) (f : Frame) → size_of_tasks f.tasks ≤ n → size_of_tasks f.tasks ≤ m
-        → (is_at_rest f ≡ true) ⊎ (size_of_tasks (worked f f.tasks).tasks < size_of_tasks f.tasks) → after_work n f ≡ after_work m f
-    go n m f h k (inl r) = let a : after_work n f ≡ f = after_work-rest n f r in let b : after_work m f ≡ f = after_work-rest m f r in cc
+        → (is_at_rest f ≡ true) ⊎ (size_of_tasks (worked f f.tasks).tasks < size_of_tasks f.tasks)
+        → after_work n f ≡ after_work m f
+    go n m f h k (inl r) =
+        let a : after_work n f ≡ f = after_work-rest n f r in
+        let b : after_work m f ≡ f = after_work-rest m f r in
+        cc
     go zero m f h k (inr l) = absurd (omega arith)
     go (suc n) zero f h k (inr l) = absurd (omega arith)
-    go (suc n) (suc m) f h k (inr l) = go n m (worked f f.tasks) (omega arith) (omega arith) (worked-less (worked f f.tasks) (worked f f.tasks).tasks)
+    go (suc n) (suc m) f h k (inr l) =
+        go n m (worked f f.tasks) (omega arith) (omega arith) (worked-less (worked f f.tasks) (worked f f.tasks).tasks)
 
 pub settled-enough : (n : ℕ) (f : Frame) → size_of_tasks f.tasks ≤ n → after_work n f ≡ settled f
 settled-enough n f h = after_work-agree n (size_of_tasks f.tasks) f h (omega arith)
@@ -141,15 +155,19 @@ settled-enough n f h = after_work-agree n (size_of_tasks f.tasks) f h (omega ari
 pub settled-worked : (f : Frame) → settled f ≡ settled (worked f f.tasks)
 settled-worked f = go (worked-less f f.tasks)
   where
-    go : (is_at_rest f ≡ true) ⊎ (size_of_tasks (worked f f.tasks).tasks < size_of_tasks f.tasks) → settled f ≡ settled (worked f f.tasks)
+    go : (is_at_rest f ≡ true) ⊎ (size_of_tasks (worked f f.tasks).tasks < size_of_tasks f.tasks)
+        → settled f ≡ settled (worked f f.tasks)
     go (inl r) = let e : worked f f.tasks ≡ f = worked-rest f f.tasks r in rw e refl
     go (inr l) =
-        let a : after_work (suc (size_of_tasks f.tasks)) f ≡ settled f = settled-enough (suc (size_of_tasks f.tasks)) f (omega arith) in
-        let b : after_work (size_of_tasks f.tasks) (worked f f.tasks) ≡ settled (worked f f.tasks) = settled-enough (size_of_tasks f.tasks) (worked f f.tasks) (omega arith) in
+        let a : after_work (suc (size_of_tasks f.tasks)) f ≡ settled f =
+        settled-enough (suc (size_of_tasks f.tasks)) f (omega arith) in
+        let b : after_work (size_of_tasks f.tasks) (worked f f.tasks) ≡ settled (worked f f.tasks) =
+        settled-enough (size_of_tasks f.tasks) (worked f f.tasks) (omega arith) in
         cc
 
 -- what each piece of local work keeps, all of it keeps
-pub after_work-keeps : (P : Frame → Type 0) → ((f : Frame) → P f → P (worked f f.tasks)) → (n : ℕ) (f : Frame) → P f → P (after_work n f)
+pub after_work-keeps : (P : Frame → Type 0) → ((f : Frame) → P f → P (worked f f.tasks)) → (n : ℕ) (f : Frame) → P f
+    → P (after_work n f)
 after_work-keeps P keeps zero f h = h
 after_work-keeps P keeps (suc n) f h = after_work-keeps P keeps n (worked f f.tasks) (keeps f h)
 

@@ -4,3 +4,5 @@ pub mod Growth
 pub mod Standing
 pub mod HeapSteps
 pub mod Typed
+pub mod Lengths
+pub mod Closing

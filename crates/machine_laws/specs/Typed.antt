@@ -5,7 +5,7 @@ use Rattle.pv_ast.specs.declared.PvType.TheVariants.{Int, Truth}
 use Rattle.pv_values.specs.declared.value.Value.{Value}
 use Rattle.pv_values.specs.declared.value.Location.{Location}
 use Rattle.pv_values.specs.declared.value.Location.TheVariants.{Field, Cell}
-use Rattle.pv_values.specs.Typing.{Kind, numbers, truths, objects, int_arrays, truth_arrays, is_number, is_truth, Refers}
+use Rattle.pv_values.specs.Typing.{Kind, numbers, truths, objects, int_arrays, truth_arrays, nulls, is_number, is_truth, Refers}
 use Rattle.pv_meaning.specs.Heaps.{Heap}
 use Rattle.pv_meaning.specs.Labels.{Label}
 
@@ -23,6 +23,7 @@ HasKind heap truths value = IsTrue (is_truth value)
 HasKind heap (objects class) value = Refers (λ n. heap.class n ≡ Some class) value
 HasKind heap int_arrays value = Refers (IsArrayOf is_number heap) value
 HasKind heap truth_arrays value = Refers (IsArrayOf is_truth heap) value
+HasKind heap nulls value = Refers (λ n. ⊥) value
 
 -- no value has the kind of a field that isn't there
 abbrev pub HasKindOf : Heap → Option Kind → Value → Type 0
@@ -36,19 +37,22 @@ pub record IsUnused (heap : Heap) (n : ℕ) : Type 0 where
   pub fields : (name : Name) → heap.value (Field n name) ≡ None
   pub elements : (index : ℤ) → heap.value (Cell n index) ≡ None
 
--- each value has the kind of its location, an array holds whole numbers alone or truth values alone, each object has the fields of its
--- class, and beyond the count there is nothing, nor at null
+-- each value has the kind of its location, an array holds whole numbers alone or truth values alone, each object has the fields
+-- of its class, and beyond the count there is nothing, nor at null
 pub record IsTypedHeap (kind_of_field : Name → Name → Option Kind) (heap : Heap) : Type 0 where
-  pub fields : (object : ℕ) (class name : Name) (value : Value) → heap.class object ≡ Some class → heap.value (Field object name) ≡ Some value
+  pub fields : (object : ℕ) (class name : Name) (value : Value) → heap.class object ≡ Some class
+      → heap.value (Field object name) ≡ Some value
       → HasKindOf heap (kind_of_field class name) value
   pub elements : (array : ℕ) → HoldsOnly is_number heap array ⊎ HoldsOnly is_truth heap array
-  pub complete : (object : ℕ) (class name : Name) → heap.class object ≡ Some class → IsSome (kind_of_field class name) → IsSome (heap.value (Field object name))
+  pub complete : (object : ℕ) (class name : Name) → heap.class object ≡ Some class → IsSome (kind_of_field class name)
+      → IsSome (heap.value (Field object name))
   pub null : IsUnused heap 0
   pub beyond : (n : ℕ) → heap.count < n → IsUnused heap n
 
 -- a value has the kind of a location
 abbrev pub FitsAt : (Name → Name → Option Kind) → Heap → Location → Value → Type 0
-FitsAt kind_of_field heap (Field object name) value = (class : Name) → heap.class object ≡ Some class → HasKindOf heap (kind_of_field class name) value
+FitsAt kind_of_field heap (Field object name) value =
+    (class : Name) → heap.class object ≡ Some class → HasKindOf heap (kind_of_field class name) value
 FitsAt kind_of_field heap (Cell array index) value =
     (HoldsOnly is_number heap array × IsTrue (is_number value)) ⊎ (HoldsOnly is_truth heap array × IsTrue (is_truth value))
 

@@ -9,7 +9,7 @@ ghost use Rattle.pv_meaning.specs.Core.{Program};
 ghost use Rattle.pv_meaning.specs.Heaps.{heap_of};
 ghost use Rattle.pv_meaning.specs.Starts.{field_kind};
 ghost use Rattle.pv_meaning.specs.Frames.{Frame, after_work, settled};
-ghost use Rattle.pv_meaning.specs.Tasks.{size_of_tasks};
+ghost use Rattle.pv_meaning.specs.Measures.{size_of_tasks};
 ghost use Rattle.pv_meaning.specs.Worlds.{Mode, Ordered, World, has_ended, next};
 ghost use Rattle.pv_meaning.specs.Steps.{Result, act};
 ghost use Rattle.pv_meaning.specs.Safety.{Event, IsReached, may_step, happens, run_events};
@@ -19,8 +19,10 @@ ghost use Rattle.machine_laws.specs.Rest.{is_at_rest};
 ghost use Rattle.machine_laws.specs.Shapes.{AreAlike};
 ghost use Rattle.machine_laws.specs.Standing.{AreStanding};
 ghost use Rattle.machine_laws.specs.HeapSteps.{IsHeapStep};
+ghost use Rattle.machine_laws.specs.Lengths.{HasItsElements};
 ghost use Rattle.pv_values.specs.declared.value.Value.{Value};
 ghost use Rattle.machine_laws.specs.Typed.{HasKindOf, IsTypedHeap, KeepsKinds};
+ghost use Rattle.machine_laws.specs.Closing.{WorkClosesNothing};
 
 /// Local work goes on up to a step, a call that isn't over, or the end of the body.
 pub fn work_ends_at_a_step()
@@ -84,4 +86,14 @@ pub fn steps_keep_heaps_well_typed()
 pub fn steps_keep_kinds()
     ensures { (p : Program) (w v : World) (mode : Mode) (i : ℕ) → IsTypedHeap (field_kind p) w.heap → KeepsKinds (field_kind p) w.heap (next (w.threads i))
         → act p w mode i ≡ Result.Went v → (kind : Option Kind) (value : Value) → HasKindOf w.heap kind value → HasKindOf v.heap kind value }
+{}
+
+/// In a reached heap no length is negative, and each array has elements at the indices from 0 to below its length and nowhere else.
+pub fn reached_heaps_have_their_elements()
+    ensures { (p : Program) (w : World) → IsReached p w → HasItsElements w.heap }
+{}
+
+/// No task that a statement or an expression is taken apart into closes a block, and local work makes none that does.
+pub fn work_closes_no_block()
+    ensures { WorkClosesNothing }
 {}

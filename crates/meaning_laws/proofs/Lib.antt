@@ -1,8 +1,16 @@
-mod Sames
-mod Readers
+pub mod Sames
+pub mod Readers
 mod Taking
 mod Formulas
-mod Statements
+pub mod Statements
 mod DirectForm
 mod TrueTables
 mod Falling
+pub mod Sources
+mod Drawing
+pub mod OneGo
+pub mod Backing
+pub mod Lookups
+pub mod Judging
+mod Together
+mod Picking

@@ -6,9 +6,11 @@ use Rattle.pv_meaning.specs.declared.evidence.Entry.{Entry}
 use Rattle.pv_meaning.specs.Core.{Formula}
 use Rattle.pv_meaning.specs.States.{State, Bind}
 use Rattle.pv_meaning.specs.Settings.{Setting, Next}
+use Rattle.pv_meaning.specs.Values.{width}
+use Rattle.pv_meaning.specs.Repetitions.{test_from}
 use Rattle.pv_meaning.specs.Inhaling.{inhale}
 use Rattle.pv_meaning.specs.Exhaling.{Giving, exhale}
-use Rattle.pv_meaning.specs.Judge.{End, Finished, Blocked, Failed, Judged, value_of_operation, step_value, is_known_true}
+use Rattle.pv_meaning.specs.Judge.{End, Finished, Blocked, Failed, Judged, Maps, content, value_of_operation}
 
 pub data Gone : Type 0 where
   Goes : State → List Pick → Gone
@@ -32,40 +34,43 @@ direct_turn next (Number z ∷ picks) = Ends Blocked
 direct_turn next (Turn n ∷ picks) = if nat_lt n 3 then next n picks else Ends Blocked
 direct_turn next (Steps map ∷ picks) = Ends Blocked
 
-abbrev pub direct_steps : ((ℤ → ℤ) → Directly) → Directly
+abbrev pub direct_steps : Directly → Directly
 direct_steps next [] = Ends Blocked
 direct_steps next (Number z ∷ picks) = Ends Blocked
 direct_steps next (Turn n ∷ picks) = Ends Blocked
-direct_steps next (Steps map ∷ picks) = next (step_value map) picks
+direct_steps next (Steps map ∷ picks) = next picks
 
-abbrev pub directly : List Entry → Setting Directly
-directly table = record {
+abbrev pub direct_tests : Maps → List Entry → Setting Directly
+direct_tests maps table = record {
   finished = stopped Finished;
   blocked = stopped Blocked;
   failed = λ check span. stopped (Failed check span);
   unfit = stopped Blocked;
   pick = direct_pick;
   turn = direct_turn;
-  steps = direct_steps;
-  operation = value_of_operation table;
-  using = λ operation a b rest. rest;
+  steps = λ number type array. direct_steps;
+  using = λ operation a b next. next (value_of_operation table operation a b);
   comparing = λ a b rest. rest;
   matching = λ a b rest. rest;
   deciding = λ b rest. rest;
   noticing = λ event rest. rest;
-  reading = λ origin rest. rest;
-  knowing = λ known rest. if is_known_true known then rest else stopped Blocked;
+  reading = λ cell next. next (content maps cell);
+  knowing = λ known rest. rest;
 }
+
+abbrev pub directly : Maps → List Entry → Setting Directly
+directly maps table =
+    record (direct_tests maps table) { knowing = λ k rest. test_from (direct_tests maps table) k k.low (width k.low k.high) rest }
 
 abbrev pub went : Next Directly
 went state picks = Goes state picks
 
--- from a state and picks, under a table
-abbrev pub inhaled : List Entry → Bind → Formula → State → List Pick → Gone
-inhaled table bind formula state picks = inhale (directly table) bind formula went state picks
+-- from a state and picks, with the maps of picks for ranges, under a table
+abbrev pub inhaled : Maps → List Entry → Bind → Formula → State → List Pick → Gone
+inhaled maps table bind formula state picks = inhale (directly maps table) bind formula went state picks
 
-abbrev pub exhaled : List Entry → Giving → Formula → State → List Pick → Gone
-exhaled table giving formula state picks = exhale (directly table) giving formula went state picks
+abbrev pub exhaled : Maps → List Entry → Giving → Formula → State → List Pick → Gone
+exhaled maps table giving formula state picks = exhale (directly maps table) giving formula went state picks
 
 -- what comes next, where it goes
 abbrev pub then_next : Gone → Next Judged → End

@@ -14,7 +14,8 @@ use Rattle.meaning_rows.specs.Building.{integer}
 use Rattle.meaning_rows.specs.Overwriting.{program, start, last_class, last, loop_end, second_first, in_order}
 use Rattle.meaning_rows.proofs.Copying.{both_ended}
 
-no_fields : (object : ℕ) (class name : Name) (given : Value) → class_of start.heap object ≡ Some class → value_at start.heap (Field object name) ≡ Some given
+no_fields : (object : ℕ) (class name : Name) (given : Value) → class_of start.heap object ≡ Some class
+    → value_at start.heap (Field object name) ≡ Some given
     → HasKindOf start.heap (field_kind program class name) given
 no_fields zero class name given hc hv = absurd (cc)
 no_fields (suc zero) class name given hc hv = absurd (cc)
@@ -24,7 +25,8 @@ no_fields (suc (suc (suc n))) class name given hc hv = absurd (cc)
 numbers_only : (array : ℕ) → HoldsOnly is_number start.heap array
 numbers_only zero index given h = absurd (cc)
 numbers_only (suc zero) index given h = absurd (cc)
-numbers_only (suc (suc zero)) (pos zero) given h = let e : integer 0 ≡ given = cc in subst (λ (v : Value). IsTrue (is_number v)) e refl
+numbers_only (suc (suc zero)) (pos zero) given h = let e : integer 0 ≡ given = cc in
+    subst (λ (v : Value). IsTrue (is_number v)) e refl
 numbers_only (suc (suc zero)) (pos (suc n)) given h = absurd (cc)
 numbers_only (suc (suc zero)) (negsuc n) given h = absurd (cc)
 numbers_only (suc (suc (suc n))) index given h = absurd (cc)
@@ -34,7 +36,8 @@ complete : (object : ℕ) (class name : Name) → class_of start.heap object ≡
 complete zero class name hc hk = absurd (cc)
 complete (suc zero) class name hc hk =
     let e : class ≡ last_class = cc in
-    let k : IsSome (field_kind program last_class name) = subst (λ (c : Name). IsSome (field_kind program c name)) e hk in absurd (cc)
+    let k : IsSome (field_kind program last_class name) = subst (λ (c : Name). IsSome (field_kind program c name)) e hk in
+    absurd (cc)
 complete (suc (suc zero)) class name hc hk = absurd (cc)
 complete (suc (suc (suc n))) class name hc hk = absurd (cc)
 
@@ -84,7 +87,8 @@ ordered_run = record {
 
 pub disagrees : AgreesOnLoops program → ⊥
 disagrees agrees =
-    let here : IsReached program (first_world start) = record { start = start; starts = start_is_one; events = []; leads = refl } in
+    let here : IsReached program (first_world start) =
+    record { start = start; starts = start_is_one; events = []; leads = refl } in
     let ends = agrees (first_world start) here 0 refl (loop_end Free second_first) free_run in
     let same = (ends.each (loop_end Ordered in_order) ordered_run).values (Cell 2 (pos 0)) in
     let one : Some (integer 1) ≡ Some (integer 0) = same in cc

@@ -46,7 +46,8 @@ one mine f x fits class name given hc hv =
     (subst (λ (n : Name). HasKindOf start.heap (field_kind program mine n) given) (sym e)
     (subst (λ (y : Value). HasKindOf start.heap (field_kind program mine f) y) here.1 fits))
 
-fields_typed : (object : ℕ) (class name : Name) (given : Value) → class_of start.heap object ≡ Some class → value_at start.heap (Field object name) ≡ Some given
+fields_typed : (object : ℕ) (class name : Name) (given : Value) → class_of start.heap object ≡ Some class
+    → value_at start.heap (Field object name) ≡ Some given
     → HasKindOf start.heap (field_kind program class name) given
 fields_typed zero class name given hc hv = absurd (cc)
 fields_typed (suc zero) class name given hc hv = one cell_class v (integer 0) refl class name given hc hv
@@ -70,10 +71,13 @@ declared_where false f h = absurd (cc)
 
 -- and it is there
 one_there : (mine f : Name) (x : Value) (type : PvType)
-    → ((name : Name) → IsSome (field_kind program mine name) → IsSome (option_map kind_of (type_in (if nat_eq f.0 name.0 then Some (f, type) else None))))
-    → (class name : Name) → Some mine ≡ Some class → IsSome (field_kind program class name) → IsSome (if nat_eq name.0 f.0 then Some x else None)
+    → ((name : Name) → IsSome (field_kind program mine name)
+    → IsSome (option_map kind_of (type_in (if nat_eq f.0 name.0 then Some (f, type) else None))))
+    → (class name : Name) → Some mine ≡ Some class → IsSome (field_kind program class name)
+    → IsSome (if nat_eq name.0 f.0 then Some x else None)
 one_there mine f x type declared class name hc hk =
-    let k : IsSome (field_kind program mine name) = at_class (λ (k : Name). IsSome (field_kind program k name)) class mine (sym hc) hk in
+    let k : IsSome (field_kind program mine name) = at_class (λ (k : Name). IsSome (field_kind program k name)) class mine
+    (sym hc) hk in
     let e : f ≡ name = name_eq f name (declared_where (nat_eq f.0 name.0) (f, type) (declared name k)) in
     subst (λ (n : Name). IsSome (if nat_eq n.0 f.0 then Some x else None)) e (rw (eq-eqb f.0 f.0 refl) refl)
 
@@ -81,9 +85,12 @@ complete : (object : ℕ) (class name : Name) → class_of start.heap object ≡
     → IsSome (value_at start.heap (Field object name))
 complete zero class name hc hk = absurd (cc)
 complete (suc zero) class name hc hk = one_there cell_class v (integer 0) Int (λ n h. h) class name hc hk
-complete (suc (suc zero)) class name hc hk = one_there writer_class c (reference 1) (Object cell_class) (λ n h. h) class name hc hk
-complete (suc (suc (suc zero))) class name hc hk = one_there writer_class c (reference 1) (Object cell_class) (λ n h. h) class name hc hk
-complete (suc (suc (suc (suc zero)))) class name hc hk = let k : IsSome (field_kind program main_class name) = at_class (λ (k : Name). IsSome (field_kind program k name)) class main_class (sym hc) hk in absurd (cc)
+complete (suc (suc zero)) class name hc hk =
+    one_there writer_class c (reference 1) (Object cell_class) (λ n h. h) class name hc hk
+complete (suc (suc (suc zero))) class name hc hk =
+    one_there writer_class c (reference 1) (Object cell_class) (λ n h. h) class name hc hk
+complete (suc (suc (suc (suc zero)))) class name hc hk = let k : IsSome (field_kind program main_class name) =
+    at_class (λ (k : Name). IsSome (field_kind program k name)) class main_class (sym hc) hk in absurd (cc)
 complete (suc (suc (suc (suc (suc n))))) class name hc hk = absurd (cc)
 
 start_is_one : IsStart program start
@@ -99,7 +106,12 @@ start_is_one = record {
 }
 
 reached : IsReached program before_the_writes.world
-reached = record { start = start; starts = start_is_one; events = event Free 0 ∷ event Free 0 ∷ event Free 1 ∷ event Free 2 ∷ []; leads = refl }
+reached = record {
+  start = start;
+  starts = start_is_one;
+  events = event Free 0 ∷ event Free 0 ∷ event Free 1 ∷ event Free 2 ∷ [];
+  leads = refl;
+}
 
 pub not_safe : IsSafe program → ⊥
 not_safe safe = safe before_the_writes.world reached (inr race)

@@ -78,7 +78,8 @@ elements i low high array amount = Each i low high (Join (Elements Int array (po
 
 -- each of those elements is a number
 abbrev pub filled : Name → Expression → Expression → Expression → ℕ → Formula
-filled i low high array n = Each i low high (Join (Repeated (equals (element array (variable i)) (number n)) nowhere) NoItems) nowhere
+filled i low high array n =
+    Each i low high (Join (Repeated (equals (element array (variable i)) (number n)) nowhere) NoItems) nowhere
 
 abbrev pub all_of : List Formula → Formula
 all_of [] = anything
@@ -112,8 +113,15 @@ abbrev pub has_field : Name → PvType → Member
 has_field name type = IsField (name, type)
 
 abbrev pub has_method : Name → List Parameter → Contract → List Statement → Member
-has_method name parameters contract statements =
-    IsMethod (record { name = Some name; parameters = parameters; result = None; contract = contract; body = block statements; old = false })
+has_method name parameters contract statements = IsMethod (record {
+  name = Some name;
+  parameters = parameters;
+  result = None;
+  contract = contract;
+  body = block statements;
+  old = false;
+})
 
 abbrev pub has_run : Contract → List Statement → Member
-has_run contract statements = IsMethod (record { name = None; parameters = []; result = None; contract = contract; body = block statements; old = false })
+has_run contract statements =
+    IsMethod (record { name = None; parameters = []; result = None; contract = contract; body = block statements; old = false })

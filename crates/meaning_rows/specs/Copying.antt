@@ -1,5 +1,6 @@
 -- A counted loop in which each member sends to the next:
---   class Dep { void copy(int[] a, int[] b, int[] c, int n) { for (int i = 0 .. n) requires Perm(a[i], write) ** Perm(b[i], 1\2) ** Perm(c[i], write);
+--   class Dep { void copy(int[] a, int[] b, int[] c, int n) { for (int i = 0 .. n)
+--     requires Perm(a[i], write) ** Perm(b[i], 1\2) ** Perm(c[i], write);
 --     { a[i] = b[i]; send S, 1: Perm(a[i], 1\2); recv S; if (0 < i) { c[i] = a[i - 1]; } } } }
 use Rattle.std.specs.Prelude.{ℕ, pos, true, false, List, [], ◌∷◌, map, Option, Some, None}
 use Rattle.pv_base.specs.declared.Name.{Name}
@@ -68,13 +69,15 @@ copy_method = record {
   name = Some copy;
   parameters = (a, IntArray) ∷ (b, IntArray) ∷ (c, IntArray) ∷ (n, Int) ∷ [];
   result = None;
-  contract = promises (all_of (elements i (number 0) (variable n) (variable a) whole ∷ elements i (number 0) (variable n) (variable b) half
+  contract = promises (all_of
+      (elements i (number 0) (variable n) (variable a) whole ∷ elements i (number 0) (variable n) (variable b) half
       ∷ elements i (number 0) (variable n) (variable c) whole ∷ [])) anything;
   body = block (Members team
       (block (set_element (variable a) (variable i) (element (variable b) (variable i))
       ∷ Send message nowhere
       ∷ Receive message nowhere
-      ∷ If (below (number 0) (variable i)) (block (set_element (variable c) (variable i) (element (variable a) (minus (variable i) (number 1))) ∷ [])) Stop
+      ∷ If (below (number 0) (variable i))
+      (block (set_element (variable c) (variable i) (element (variable a) (minus (variable i) (number 1))) ∷ [])) Stop
       ∷ []))
       nowhere
       ∷ []);
@@ -121,4 +124,5 @@ abbrev pub ordered_order : List ℕ
 ordered_order = 1 ∷ 1 ∷ 1 ∷ 1 ∷ 1 ∷ 2 ∷ 2 ∷ 2 ∷ 2 ∷ 2 ∷ 2 ∷ 2 ∷ []
 
 abbrev pub loop_end : Mode → List ℕ → World
-loop_end mode order = run_events program (map (event mode) order) (world_after (first_world start) (act program (first_world start) mode 0))
+loop_end mode order =
+    run_events program (map (event mode) order) (world_after (first_world start) (act program (first_world start) mode 0))

@@ -7,7 +7,7 @@ use Rattle.pv_values.specs.declared.value.Value.TheVariants as value
 use Rattle.pv_values.specs.declared.thing.Thing.TheVariants as thing
 use Rattle.pv_meaning.specs.declared.check.Check.{Check}
 use Rattle.pv_meaning.specs.declared.check.Check.TheVariants as check
-use Rattle.pv_meaning.specs.Core.{Expression, Constant, This, Result, And, Or, Implies, Old, Star, If, Stop, Unfold, Field, Element, Length, Formula, Fact, Items, NoItems, Join, Repeated, Action, Fork, Join', Lock, Unlock, Commit, Nowhere, ToVariable, ToField, Value', Call, NewArray, Assign, While, Members, Meet, Fold, Assert, Send, Return, Statement, Act, IsMethod, IsPredicate, Program, Method, Member}
+use Rattle.pv_meaning.specs.Core.{Expression, Constant, This, Result, Not, And, Or, Implies, Old, Star, If, Stop, Unfold, Field, Element, Length, Formula, Fact, Items, NoItems, Join, Repeated, Action, Fork, Join', Lock, Unlock, Commit, Nowhere, ToVariable, ToField, Value', Call, NewArray, Assign, While, Members, Meet, Fold, Assert, Message, Send, Receive, Return, Statement, Act, IsMethod, IsPredicate, Program, Method, Member}
 use Rattle.pv_meaning.specs.Worlds.{Free, World}
 use Rattle.pv_meaning.specs.Steps as steps
 use Rattle.pv_meaning.specs.Starts.{Start, first_world}
@@ -72,7 +72,27 @@ nothing = says (Constant (value.Truth false))
 abbrev pub store : Expression → Expression → Statement
 store object e = Assign (ToField object item v at_access) (Value' e) at_statement
 
--- the class has a value, an array, a predicate, a `run`, a lock invariant, a method that breaks its promise, and one that adds to the value
+abbrev pub fresh : Name
+fresh = named 11
+
+-- a class that isn't declared
+abbrev pub unknown : Name
+unknown = named 12
+
+-- a new array of so many elements, of which the method promises that there are three and always were
+abbrev pub fresh_method : Member
+fresh_method = IsMethod (record {
+  name = Some fresh;
+  parameters = (k, Int) ∷ [];
+  result = Some IntArray;
+  contract = promises anything
+      (Star (says (Not (equals Result null))) (says (equals (Old (Length Int Result at_access)) (number 3))));
+  body = block (Assign (ToVariable x) (NewArray Int (variable k)) at_statement ∷ Return (Some (variable x)) at_statement ∷ []);
+  old = true;
+})
+
+-- the class has a value, an array, a predicate, a `run`, a lock invariant, a method that breaks its promise, one that adds to the
+-- value, and one that makes an array
 abbrev pub members : List Member
 members =
     has_field v Int ∷ has_field a IntArray
@@ -90,17 +110,30 @@ members =
       name = Some bump;
       parameters = (k, Int) ∷ [];
       result = Some Int;
-      contract = promises anything (Star (says (equals (value_of This) (plus (Old (value_of This)) (variable k)))) (says (equals Result (variable k))));
+      contract = promises anything
+          (Star (says (equals (value_of This) (plus (Old (value_of This)) (variable k)))) (says (equals Result (variable k))));
       body = block (store This (plus (value_of This) (variable k)) ∷ Return (Some (variable k)) at_statement ∷ []);
       old = true;
     })
+    ∷ fresh_method
     ∷ []
 
 abbrev pub main_method : List Statement → Method
-main_method body = record { name = Some main; parameters = []; result = None; contract = promises anything anything; body = block body; old = false }
+main_method body = record {
+  name = Some main;
+  parameters = [];
+  result = None;
+  contract = promises anything anything;
+  body = block body;
+  old = false;
+}
 
 abbrev pub program : List Statement → Program
-program body = record { name = item; lock_invariant = Some (says (equals (value_of This) (number 0))); members = IsMethod (main_method body) ∷ members } ∷ []
+program body = record {
+  name = item;
+  lock_invariant = Some (says (equals (value_of This) (number 0)));
+  members = IsMethod (main_method body) ∷ members;
+} ∷ []
 
 abbrev pub start : List Statement → Start
 start body = record {
@@ -166,7 +199,10 @@ abbrev pub at_first : Expression
 at_first = equals (variable i) (number 0)
 
 abbrev pub meets : Formula → Items → Statement
-meets before each_after = Meet (record { place = 0 ∷ []; shared = record { one = promises before anything; each_before = NoItems; each_after = each_after } }) at_statement
+meets before each_after = Meet (record {
+  place = 0 ∷ [];
+  shared = record { one = promises before anything; each_before = NoItems; each_after = each_after };
+}) at_statement
 
 -- a body and what its run comes to
 
@@ -186,15 +222,18 @@ accesses =
     ∷ wrong (set x (Length Int null at_access) ∷ []) check.Null at_access
     ∷ wrong (set x (Element Int array_of_own (number 2) at_access) ∷ []) check.Bounds at_access
     ∷ wrong (set x (Element Int array_of_own (Constant (value.Number (negsuc 0))) at_access) ∷ []) check.Bounds at_access
-    ∷ wrong (Assign (ToVariable x) (NewArray Int (Constant (value.Number (negsuc 0)))) at_statement ∷ []) check.Length at_statement
+    ∷ wrong (Assign (ToVariable x) (NewArray Int (Constant (value.Number (negsuc 0)))) at_statement ∷ []) check.Length
+    at_statement
     -- the right side comes before the write
     ∷ wrong (store null (Element Int array_of_own (number 2) at_access) ∷ []) check.Bounds at_access
     -- the left side decides
     ∷ right (If (And (Constant (value.Truth false)) (equals (value_of null) (number 0))) Stop Stop ∷ [])
     ∷ right (If (Or (Constant (value.Truth true)) (equals (value_of null) (number 0))) Stop Stop ∷ [])
     ∷ right (If (Implies (Constant (value.Truth false)) (equals (value_of null) (number 0))) Stop Stop ∷ [])
-    ∷ right (set x (Element Int array_of_own (number 1) at_access) ∷ Assert (says (equals (variable x) (number 8))) at_statement ∷ [])
-    ∷ right (Assign (ToVariable x) (NewArray Int (number 0)) at_statement ∷ Assert (says (equals (Length Int (variable x) at_access) (number 0))) at_statement ∷ [])
+    ∷ right (set x (Element Int array_of_own (number 1) at_access) ∷ Assert (says (equals (variable x) (number 8))) at_statement
+    ∷ [])
+    ∷ right (Assign (ToVariable x) (NewArray Int (number 0)) at_statement
+    ∷ Assert (says (equals (Length Int (variable x) at_access) (number 0))) at_statement ∷ [])
     ∷ []
 
 abbrev pub checks : List Case
@@ -212,6 +251,9 @@ checks =
     ∷ wrong (Assign Nowhere (Call item get null (value_of null ∷ [])) at_statement ∷ []) check.Null at_access
     ∷ right (Assign (ToVariable x) (Call item bump This (number 3 ∷ [])) at_statement
     ∷ Assert (Star (says (equals (variable x) (number 3))) (says (equals (value_of This) (number 3)))) at_statement ∷ [])
+    -- a length under `\old` is that of the present heap
+    ∷ right (Assign Nowhere (Call item fresh This (number 3 ∷ [])) at_statement ∷ [])
+    ∷ wrong (Assign Nowhere (Call item fresh This (number 2 ∷ [])) at_statement ∷ []) check.Ensures at_conjunct
     ∷ []
 
 abbrev pub actions : List Case
@@ -237,9 +279,37 @@ blocks =
     ∷ wrong (two_members false anything NoItems (says at_first) [] ∷ []) check.BlockEnsures at_conjunct
     ∷ wrong (free_members (meets (says at_first) NoItems ∷ []) ∷ []) check.BarrierRequires at_conjunct
     ∷ wrong (free_members (meets anything (each_says at_first) ∷ []) ∷ []) check.BarrierEnsures at_conjunct
-    ∷ wrong (two_members true anything NoItems anything (Send (record { label = label; distance = 1; formula = nothing }) at_statement ∷ []) ∷ []) check.Send at_conjunct
-    ∷ right (two_members true anything NoItems anything (Send (record { label = label; distance = 2; formula = nothing }) at_statement ∷ []) ∷ [])
+    ∷ wrong (two_members true anything NoItems anything
+    (Send (record { label = label; distance = 1; formula = nothing }) at_statement ∷ []) ∷ []) check.Send at_conjunct
+    ∷ right (two_members true anything NoItems anything
+    (Send (record { label = label; distance = 2; formula = nothing }) at_statement ∷ []) ∷ [])
     ∷ right (free_members (meets anything NoItems ∷ []) ∷ [])
+    ∷ []
+
+-- a message that no send declares
+abbrev pub lost : Message
+lost = record { label = label; distance = 0; formula = anything }
+
+abbrev pub sent : Message
+sent = record { label = label; distance = 1; formula = anything }
+
+-- on what isn't declared, and out of a member's body, a step is wrong and doesn't wait; an action on null is wrong as that
+abbrev pub undeclared : List Case
+undeclared =
+    wrong (Assign Nowhere (Call unknown get This []) at_statement ∷ []) check.Requires at_statement
+    ∷ wrong (Act Fork unknown This at_statement ∷ []) check.ForkRequires at_statement
+    ∷ wrong (Act Lock unknown This at_statement ∷ []) check.LockInvariant at_statement
+    ∷ wrong (Act Unlock unknown This at_statement ∷ []) check.LockInvariant at_statement
+    ∷ wrong (Act Commit unknown This at_statement ∷ []) check.LockInvariant at_statement
+    ∷ wrong (Act Commit unknown null at_statement ∷ []) check.Null at_statement
+    ∷ wrong (Fold unknown one This [] at_statement ∷ []) check.Fold at_statement
+    -- to unfold is no step
+    ∷ right (Unfold unknown one This [] at_statement ∷ [])
+    ∷ wrong (two_members true anything NoItems anything (Send lost at_statement ∷ []) ∷ []) check.Send at_statement
+    ∷ wrong (two_members true anything NoItems anything (Receive lost at_statement ∷ []) ∷ []) check.Send at_statement
+    ∷ wrong (Send sent at_statement ∷ []) check.Send at_statement
+    ∷ wrong (Receive sent at_statement ∷ []) check.Send at_statement
+    ∷ wrong (meets anything NoItems ∷ []) check.BarrierRequires at_statement
     ∷ []
 
 -- what the runs come to, and what they are to come to

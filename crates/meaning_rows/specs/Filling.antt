@@ -55,7 +55,8 @@ q = named 11
 
 -- half of each field of the worker
 abbrev pub fields : Formula
-fields = all_of (permission This worker a IntArray half ∷ permission This worker low Int half ∷ permission This worker high Int half ∷ [])
+fields = all_of (permission This worker a IntArray half ∷ permission This worker low Int half
+    ∷ permission This worker high Int half ∷ [])
 
 -- its part of the array
 abbrev pub part : Formula
@@ -67,14 +68,18 @@ both_method = record {
   parameters = (a, IntArray) ∷ (m, Int) ∷ (n, Int) ∷ [];
   result = None;
   contract = promises
-      (all_of (fact (at_most (number 0) (variable m)) ∷ fact (at_most (variable m) (variable n)) ∷ elements i (number 0) (variable n) (variable a) whole ∷ []))
+      (all_of (fact (at_most (number 0) (variable m)) ∷ fact (at_most (variable m) (variable n))
+      ∷ elements i (number 0) (variable n) (variable a) whole ∷ []))
       (all_of (elements i (number 0) (variable n) (variable a) whole ∷ filled i (number 0) (variable n) (variable a) 1 ∷ []));
   body = block (
       Assign (ToVariable p) (NewObject worker) nowhere
       ∷ Assign (ToVariable q) (NewObject worker) nowhere
-      ∷ set_field (variable p) worker a (variable a) ∷ set_field (variable p) worker low (number 0) ∷ set_field (variable p) worker high (variable m)
-      ∷ set_field (variable q) worker a (variable a) ∷ set_field (variable q) worker low (variable m) ∷ set_field (variable q) worker high (variable n)
-      ∷ act Fork worker (variable p) ∷ act Fork worker (variable q) ∷ act Join' worker (variable p) ∷ act Join' worker (variable q) ∷ []);
+      ∷ set_field (variable p) worker a (variable a) ∷ set_field (variable p) worker low (number 0)
+      ∷ set_field (variable p) worker high (variable m)
+      ∷ set_field (variable q) worker a (variable a) ∷ set_field (variable q) worker low (variable m)
+      ∷ set_field (variable q) worker high (variable n)
+      ∷ act Fork worker (variable p) ∷ act Fork worker (variable q) ∷ act Join' worker (variable p)
+      ∷ act Join' worker (variable q) ∷ []);
   old = false;
 }
 
@@ -89,7 +94,8 @@ program =
           (all_of (fields ∷ part ∷ filled i (own worker low) (own worker high) (own worker a) 1 ∷ [])))
           (set k (own worker low)
           ∷ While ((k, Int) ∷ [])
-          (all_of (fields ∷ fact (at_most (own worker low) (variable k)) ∷ fact (at_most (variable k) (own worker high)) ∷ part ∷ filled i (own worker low) (variable k) (own worker a) 1 ∷ []))
+          (all_of (fields ∷ fact (at_most (own worker low) (variable k)) ∷ fact (at_most (variable k) (own worker high)) ∷ part
+          ∷ filled i (own worker low) (variable k) (own worker a) 1 ∷ []))
           (below (variable k) (own worker high))
           (block (set_element (own worker a) (variable k) (number 1) ∷ set k (plus (variable k) (number 1)) ∷ []))
           nowhere

@@ -1,4 +1,5 @@
--- A number that doubles: class Grow { void grow() { int x = 1; int k = 0; loop_invariant true; while (k < 200) { x = x + x; k = k + 1; } } }
+-- A number that doubles:
+--   class Grow { void grow() { int x = 1; int k = 0; loop_invariant true; while (k < 200) { x = x + x; k = k + 1; } } }
 use Rattle.std.specs.Prelude.{ℕ, false, List, [], ◌∷◌, Option, Some, None}
 use Rattle.pv_base.specs.declared.Name.{Name}
 use Rattle.pv_ast.specs.declared.PvType.TheVariants.{Int}

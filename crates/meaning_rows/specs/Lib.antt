@@ -8,3 +8,8 @@ pub mod Growing
 pub mod Faults
 pub mod Swapping
 pub mod Overwriting
+pub mod Handing
+pub mod Distant
+pub mod Barriers
+pub mod Formulas
+pub mod Refused

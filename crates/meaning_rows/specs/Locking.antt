@@ -36,7 +36,8 @@ twice_method = record {
   parameters = [];
   result = None;
   contract = promises anything anything;
-  body = block (Assign (ToVariable p) (NewObject pair) nowhere ∷ act Commit pair (variable p) ∷ act Lock pair (variable p) ∷ act Lock pair (variable p) ∷ []);
+  body = block (Assign (ToVariable p) (NewObject pair) nowhere ∷ act Commit pair (variable p) ∷ act Lock pair (variable p)
+      ∷ act Lock pair (variable p) ∷ []);
   old = false;
 }
 
@@ -44,7 +45,9 @@ abbrev pub program : Program
 program =
     record {
       name = pair;
-      lock_invariant = Some (all_of (permission This pair x Int whole ∷ permission This pair y Int whole ∷ fact (equals (own pair x) (own pair y)) ∷ []));
+      lock_invariant = Some
+          (all_of (permission This pair x Int whole ∷ permission This pair y Int whole ∷ fact (equals (own pair x) (own pair y))
+          ∷ []));
       members = has_field x Int ∷ has_field y Int ∷ [];
     }
     ∷ record { name = main_class; lock_invariant = None; members = IsMethod twice_method ∷ [] }

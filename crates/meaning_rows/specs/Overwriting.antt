@@ -55,7 +55,8 @@ start = record {
 
 -- the end of the loop's run in an order of its members
 abbrev pub loop_end : Mode → List ℕ → World
-loop_end mode order = run_events program (map (event mode) order) (world_after (first_world start) (act program (first_world start) mode 0))
+loop_end mode order =
+    run_events program (map (event mode) order) (world_after (first_world start) (act program (first_world start) mode 0))
 
 abbrev pub second_first : List ℕ
 second_first = 2 ∷ 2 ∷ 1 ∷ 1 ∷ []

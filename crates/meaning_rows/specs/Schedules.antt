@@ -16,7 +16,10 @@ event mode i = record { thread = i; mode = mode }
 
 -- one step of a thread, which is counted where it goes
 abbrev pub step : Program → Mode → ℕ → Ran → Ran
-step p mode i ran = record { steps = if may_step p ran.world i then suc ran.steps else ran.steps; world = happens p (event mode i) ran.world }
+step p mode i ran = record {
+  steps = if may_step p ran.world i then suc ran.steps else ran.steps;
+  world = happens p (event mode i) ran.world;
+}
 
 -- so many steps of one thread
 abbrev pub go : Program → Mode → ℕ → ℕ → Ran → Ran

@@ -1,5 +1,6 @@
 -- Two threads that write one field:
---   class Writer { Cell c; run { c.v = 1; } }   class Cell { int v; }   class Main { void two(Writer a, Writer b) { fork a; fork b; } }
+--   class Writer { Cell c; run { c.v = 1; } } class Cell { int v; }
+--   class Main { void two(Writer a, Writer b) { fork a; fork b; } }
 use Rattle.std.specs.Prelude.{false, [], ◌∷◌, Some, None}
 use Rattle.pv_base.specs.declared.Name.{Name}
 use Rattle.pv_ast.specs.declared.PvType.TheVariants.{Int, Object}
@@ -50,7 +51,8 @@ program =
       name = writer_class;
       lock_invariant = None;
       members =
-          has_field c (Object cell_class) ∷ has_run (promises anything anything) (set_field (own writer_class c) cell_class v (number 1) ∷ []) ∷ [];
+          has_field c (Object cell_class)
+          ∷ has_run (promises anything anything) (set_field (own writer_class c) cell_class v (number 1) ∷ []) ∷ [];
     }
     ∷ record { name = cell_class; lock_invariant = None; members = has_field v Int ∷ [] }
     ∷ record { name = main_class; lock_invariant = None; members = IsMethod two_method ∷ [] }

@@ -4,21 +4,27 @@
 
 ghost use Rattle.std.specs.Prelude.{◌≡◌, ◌^◌, pos, false, true, None, Some};
 ghost use Rattle.pv_values.specs.declared.value.Value.TheVariants as value;
-ghost use Rattle.pv_meaning.specs.Worlds.{Free, Ordered, next};
+ghost use Rattle.pv_meaning.specs.declared.check.Check.TheVariants as check;
+ghost use Rattle.pv_meaning.specs.Worlds.{Free, Ordered, ThreadState, has_ended, next};
 ghost use Rattle.pv_meaning.specs.Labels.{Label};
 ghost use Rattle.pv_values.specs.declared.value.Location.TheVariants.{Cell};
 ghost use Rattle.pv_meaning.specs.Steps.{Result, act};
-ghost use Rattle.pv_meaning.specs.Starts.{first_world};
+ghost use Rattle.pv_meaning.specs.Starts.{IsStart, first_world};
 ghost use Rattle.pv_meaning.specs.LoopRuns.{StandsAtLoop, IsLoopRun, AgreesOnLoops};
 ghost use Rattle.pv_meaning.specs.Safety.{Race, IsSafe, may_step};
 ghost use Rattle.meaning_rows.specs.Schedules.{all_ended, first_able, values_at};
 ghost use Rattle.meaning_rows.specs.Copying as copying;
+ghost use Rattle.meaning_rows.specs.Barriers as barriers;
+ghost use Rattle.meaning_rows.specs.Distant as distant;
 ghost use Rattle.meaning_rows.specs.Faults as faults;
 ghost use Rattle.meaning_rows.specs.Filling as filling;
+ghost use Rattle.meaning_rows.specs.Formulas as formulas;
 ghost use Rattle.meaning_rows.specs.Growing as growing;
 ghost use Rattle.meaning_rows.specs.Growing.{variable_of};
+ghost use Rattle.meaning_rows.specs.Handing as handing;
 ghost use Rattle.meaning_rows.specs.Locking as locking;
 ghost use Rattle.meaning_rows.specs.Overwriting as overwriting;
+ghost use Rattle.meaning_rows.specs.Refused as refused;
 ghost use Rattle.meaning_rows.specs.Swapping as swapping;
 ghost use Rattle.meaning_rows.specs.TwoWriters.{program as two_writers, before_the_writes};
 
@@ -110,4 +116,65 @@ pub fn steps_are_wrong_by_their_checks()
     ensures checks { faults.found faults.checks ≡ faults.wanted faults.checks }
     ensures actions { faults.found faults.actions ≡ faults.wanted faults.actions }
     ensures blocks { faults.found faults.blocks ≡ faults.wanted faults.blocks }
+    ensures undeclared { faults.found faults.undeclared ≡ faults.wanted faults.undeclared }
+{}
+
+/// Who unlocks must hold the lock: another thread's hold is not enough.
+pub fn another_thread_does_not_unlock()
+    ensures held { handing.held_by_another.world.holder 1 ≡ Some 0 }
+    ensures wrong { act handing.unlocks handing.held_by_another.world Free 1 ≡ Result.Wrong check.NotHeld handing.at_statement }
+{}
+
+/// An object whose thread has ended is forked again only once it was joined.
+pub fn an_ended_thread_is_not_forked()
+    ensures ended { handing.ended_alone.world.state 1 ≡ ThreadState.Ended }
+    ensures wrong { act handing.forks handing.ended_alone.world Free 0 ≡ Result.Wrong check.NotIdle handing.at_statement }
+{}
+
+/// A message goes to the member at its distance, who waits for it; where nobody is at the distance, nothing is sent or waited for.
+pub fn messages_go_to_their_distance()
+    ensures third_waits { act distant.program distant.second_ended.world Free 3 ≡ Result.Waits }
+    ensures second_ended { has_ended distant.second_ended.world 2 ≡ true }
+    ensures second_sent_nothing { (distant.second_ended.world.blocks 0).sent distant.s (pos 1) ≡ false }
+    ensures first_sent { (distant.first_sent.world.blocks 0).sent distant.s (pos 0) ≡ true }
+    ensures third_may { may_step distant.program distant.first_sent.world 3 ≡ true }
+    ensures steps { distant.ran.steps ≡ 12 }
+    ensures ended { all_ended distant.ran.world ≡ true }
+{}
+
+/// Members that stand at different barriers of one block wait for each other for ever, and no step is wrong.
+pub fn members_at_different_barriers_wait()
+    ensures steps { barriers.apart_ran.steps ≡ 3 }
+    ensures first_stands { next (barriers.apart_ran.world.threads 1) ≡ Some Label.Leave }
+    ensures second_stands { next (barriers.apart_ran.world.threads 2) ≡ Some Label.Leave }
+    ensures first_waits { act (barriers.program barriers.apart) barriers.apart_ran.world Free 1 ≡ Result.Waits }
+    ensures second_waits { act (barriers.program barriers.apart) barriers.apart_ran.world Free 2 ≡ Result.Waits }
+    ensures stuck { first_able (barriers.program barriers.apart) barriers.apart_ran.world ≡ None }
+{}
+
+/// At a barrier of a block within a block its own members meet, and nobody else is waited for.
+pub fn members_of_a_nested_block_meet_alone()
+    ensures one_waits { act (barriers.program barriers.nested) barriers.one_each.world Free 3 ≡ Result.Waits }
+    ensures other_waits { act (barriers.program barriers.nested) barriers.one_each.world Free 5 ≡ Result.Waits }
+    ensures left { next (barriers.first_left.world.threads 4) ≡ Some Label.End }
+    ensures still_waits { act (barriers.program barriers.nested) barriers.first_left.world Free 5 ≡ Result.Waits }
+    ensures ended { all_ended barriers.nested_ran.world ≡ true }
+{}
+
+/// Guards, shifts and single positions of quantifiers, and the first conjunct of a formula that isn't met.
+pub fn formulas_are_met_in_heaps()
+    ensures { formulas.found ≡ formulas.wanted }
+{}
+
+/// Amounts of one location add up, by whatever names it is reached.
+pub fn amounts_add_up_at_locations()
+    ensures { formulas.asked ≡ formulas.expected }
+{}
+
+/// A run starts with two arrays, and none where both parameters name one array and ask for more than there is, or where the
+/// precondition isn't met.
+pub fn some_starts_are_refused()
+    ensures two { IsStart refused.program refused.of_two_arrays }
+    ensures shared { IsStart refused.program refused.of_one_array → ⊥ }
+    ensures unmet { IsStart refused.program refused.of_another_number → ⊥ }
 {}

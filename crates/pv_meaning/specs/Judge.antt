@@ -1,7 +1,8 @@
--- The judge: the run of one unit on given evidence. Its picks are taken in order, its operations from the table; a fact that is known must be
--- true at each position.
+-- The judge: the run of one unit on given evidence. Its picks are taken in order, its operations from the table; a fact that is
+-- known must be true at each position.
 use Rattle.std.specs.Prelude.{◌≡◌, ℕ, zero, suc, ℤ, pos, ◌+ℤ◌, Bool, true, false, ◌&&◌, nat_lt, int_le, if◌then◌else◌, Option, Some, None, List, [], ◌∷◌}
 use Rattle.pv_base.specs.declared.Span.{Span}
+use Rattle.pv_values.specs.declared.value.Value.{Value}
 use Rattle.pv_ast.specs.declared.Operator.{Operator}
 use Rattle.pv_ast.specs.declared.Operator.TheVariants as operator
 use Rattle.pv_values.specs.Heaps.{same_number}
@@ -14,7 +15,9 @@ use Rattle.pv_meaning.specs.declared.evidence.Evidence.{Evidence}
 use Rattle.pv_meaning.specs.declared.unit.PvUnit.{PvUnit}
 use Rattle.pv_meaning.specs.Core.{Operation, Plus, Minus, Times, Program}
 use Rattle.pv_meaning.specs.Values.{arithmetic, width}
-use Rattle.pv_meaning.specs.Settings.{Setting, Known, Tested}
+use Rattle.pv_meaning.specs.States.{Cell, Written, FromSteps, as_element}
+use Rattle.pv_meaning.specs.Repetitions.{test_from}
+use Rattle.pv_meaning.specs.Settings.{Setting, Known}
 use Rattle.pv_meaning.specs.Units.{task_of, judge_task, enter_task}
 
 -- how a run ends
@@ -45,13 +48,15 @@ ordered operation a b = int_le a b
 
 -- the value of an operation: that of its entry, and true arithmetic where no entry stands
 abbrev pub value_of_operation : List Entry → Operation → ℤ → ℤ → ℤ
-value_of_operation table operation a b = if ordered operation a b then taken_from table operation a b else taken_from table operation b a
+value_of_operation table operation a b =
+    if ordered operation a b then taken_from table operation a b else taken_from table operation b a
 
 -- Step maps
 
 abbrev pub step_from : ℤ → List StepPair → ℤ → ℤ
 step_from value [] position = value
-step_from value (pair ∷ pairs) position = if int_le pair.at position then step_from pair.value pairs position else step_from value pairs position
+step_from value (pair ∷ pairs) position =
+    if int_le pair.at position then step_from pair.value pairs position else step_from value pairs position
 
 -- the value of the last listed position that isn't above; the positions of a step map rise
 abbrev pub step_value : List StepPair → ℤ → ℤ
@@ -75,53 +80,93 @@ pick_turn next (Number z ∷ picks) = Blocked
 pick_turn next (Turn n ∷ picks) = if nat_lt n 3 then next n picks else Blocked
 pick_turn next (Steps map ∷ picks) = Blocked
 
-abbrev pub pick_steps : ((ℤ → ℤ) → Judged) → Judged
+abbrev pub pick_steps : Judged → Judged
 pick_steps next [] = Blocked
 pick_steps next (Number z ∷ picks) = Blocked
 pick_steps next (Turn n ∷ picks) = Blocked
-pick_steps next (Steps map ∷ picks) = next (step_value map) picks
+pick_steps next (Steps map ∷ picks) = next picks
 
-abbrev pub is_true : Option Bool → Bool
-is_true None = false
-is_true (Some b) = b
+-- the maps of the picks for ranges, by their number: what it is for an index
+abbrev pub Maps : Type 0
+Maps = ℕ → ℤ → ℤ
 
-abbrev pub true_at_each : (ℤ → Tested) → ℤ → ℕ → Bool
-true_at_each test low zero = true
-true_at_each test low (suc n) = is_true (test low).truth && true_at_each test (low +ℤ pos 1) n
+abbrev pub before_others : (ℤ → ℤ) → Maps → Maps
+before_others m others zero = m
+before_others m others (suc n) = others n
 
--- the fact can be evaluated and is true at every position
-abbrev pub is_known_true : Known → Bool
-is_known_true k = true_at_each k.test k.low (width k.low k.high)
+abbrev pub maps_of : List Pick → Maps
+maps_of [] = λ n index. pos 0
+maps_of (Number z ∷ picks) = maps_of picks
+maps_of (Turn n ∷ picks) = maps_of picks
+maps_of (Steps map ∷ picks) = before_others (step_value map) (maps_of picks)
+
+-- what is in a location
+abbrev pub content : Maps → Cell → Value
+content maps (Written v) = v
+content maps (FromSteps type number index) = as_element type (maps number index)
 
 abbrev pub blocked : Judged
 blocked picks = Blocked
 
-abbrev pub judging : List Entry → Setting Judged
-judging table = record {
+-- but for what comes to be known
+abbrev pub judging_tests : Maps → List Entry → Setting Judged
+judging_tests maps table = record {
   finished = λ picks. Finished;
   blocked = blocked;
   failed = λ check span picks. Failed check span;
   unfit = blocked;
   pick = pick_number;
   turn = pick_turn;
-  steps = pick_steps;
-  operation = value_of_operation table;
-  using = λ operation a b rest. rest;
+  steps = λ number type array. pick_steps;
+  using = λ operation a b next. next (value_of_operation table operation a b);
   comparing = λ a b rest. rest;
   matching = λ a b rest. rest;
   deciding = λ b rest. rest;
   noticing = λ event rest. rest;
-  reading = λ origin rest. rest;
-  knowing = λ known rest. if is_known_true known then rest else blocked;
+  reading = λ cell next. next (content maps cell);
+  knowing = λ known rest. rest;
+}
+
+-- the fact can be evaluated and is true at every position
+abbrev pub judging : Maps → List Entry → Setting Judged
+judging maps table =
+    record (judging_tests maps table) {
+      knowing = λ k rest. test_from (judging_tests maps table) k k.low
+          (width k.low k.high) rest;
+    }
+
+-- Suspended runs
+
+-- the maps of a run that took so many picks for ranges: those of these, and those of the picks that are left
+abbrev pub maps_from : ℕ → Maps → List Pick → Maps
+maps_from zero taken picks = maps_of picks
+maps_from (suc n) taken picks = before_others (taken zero) (maps_from n (λ k. taken (suc k)) picks)
+
+-- a run that took so many picks for ranges, with their maps, and what is left of it
+pub record Suspended : Type 0 where
+  pub steps : ℕ
+  pub taken : Maps
+  pub rest : Maps → List Entry → Judged
+
+-- how it ends on the picks that are left
+abbrev pub ended_on : Suspended → Evidence → End
+ended_on run evidence = run.rest (maps_from run.steps run.taken evidence.picks) evidence.table evidence.picks
+
+-- the run of a unit, before its first pick
+abbrev pub whole_run : Program → PvUnit → Suspended
+whole_run p unit = record {
+  steps = 0;
+  taken = λ n index. pos 0;
+  rest = λ maps table. judge_task (judging maps table) p (task_of p unit);
 }
 
 -- the end of a unit's run on evidence
 abbrev pub judge : Program → PvUnit → Evidence → End
-judge p unit evidence = judge_task (judging evidence.table) p (task_of p unit) evidence.picks
+judge p unit evidence = ended_on (whole_run p unit) evidence
 
 -- the first inhale goes
 abbrev pub Enters : Program → PvUnit → Evidence → Type 0
-Enters p unit evidence = enter_task (judging evidence.table) (task_of p unit) evidence.picks ≡ Finished
+Enters p unit evidence = enter_task (judging (maps_of evidence.picks) evidence.table) (task_of p unit) evidence.picks ≡ Finished
 
 -- the run fails
 abbrev pub Fails : Program → PvUnit → Evidence → Type 0

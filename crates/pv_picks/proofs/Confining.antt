@@ -1,5 +1,5 @@
 -- An expression without a fault becomes a formula, and items, in which positions stand only where they are read.
-use Rattle.std.proofs.Common.{◌≡◌, ℕ, Bool, true, false, ◌&&◌, Option, Some, None, is_some, List, [], ◌∷◌, ◌++◌, map, refl, sym, subst, inl, inr}
+use Rattle.std.proofs.Common.{◌≡◌, ℕ, ℤ, Bool, true, false, ◌&&◌, Option, Some, None, is_some, List, [], ◌∷◌, ◌++◌, map, refl, sym, subst, inl, inr}
 use Rattle.std.proofs.lemmas.Bool.{and_parts, both_ways, eqb-true, eq-eqb}
 use Rattle.std.specs.Prelude.{nat_eq, ◌⊎◌, if◌then◌else◌}
 use Rattle.pv_base.specs.declared.Name.{Name}
@@ -26,20 +26,22 @@ use Rattle.pv_rules.specs.Scoping.{Visible, variable_named}
 use Rattle.pv_rules.specs.Typing as typing
 use Rattle.pv_rules.specs.Parts.{Around, Part, typing_in, is_array_length, is_length, need_of_target, with_bound, under_quantifier}
 use Rattle.pv_rules.specs.Items as shapes
-use Rattle.pv_rules.specs.Items.{is_used, both_uses, Form, variable, literal, shift, element, guard, fixing, other, is_guard, is_fixing, is_term, Facts, facts_in_kind, facts_of_variable, facts_of_operator, item_of_use, item_of_pure, item_of_implication, item_of_operator, item_of_token, item_of_comparison, has_variable_and_term, item_if, guarded_item, is_empty, or_else, Whole, star_body, truth_body, clause, is_part, fault_unless, body_of, faults_of_operator, part_fault}
+use Rattle.pv_rules.specs.Items.{Use, is_used, both_uses, Form, variable, literal, shift, element, guard, fixing, other, is_guard, is_fixing, is_term, Facts, facts_in_kind, facts_of_variable, facts_of_operator, item_of_use, item_of_pure, item_of_implication, item_of_operator, item_of_token, item_of_comparison, has_variable_and_term, item_if, guarded_item, is_empty, or_else, Whole, star_body, truth_body, clause, is_part, fault_unless, body_of, faults_of_operator, part_fault}
 use Rattle.pv_meaning.specs.Core.{Expression, Formula, Items, Item}
 use Rattle.pv_meaning.specs.Core as core
-use Rattle.pv_meaning.specs.Repetitions.{looks_in, looks_of, term_beside}
+use Rattle.pv_meaning.specs.Repetitions.{looks_in}
 use Rattle.pv_picks.specs.Operations.{no_expression, negation, operation, compared, is_position}
 use Rattle.pv_picks.specs.Names.{named, member_of, class_at, elements_of}
 use Rattle.pv_picks.specs.Pieces.{Piece, KindPiece, EachPiece, Layer, piece_in_kind, piece_in_each, piece_in_expr, piece_of, piece_of_kind, piece_of_each, shapes_in, conjunct, alone, joined, is_fact, is_pure, item_in_kind, formula_in_kind, items_in_kind, type_of_piece, units_of}
-use Rattle.pv_picks.specs.Positions.{mentions, IsTerm, ConfinedFormula, ConfinedItems, ConfinedItem}
+use Rattle.pv_picks.proofs.Steadiness.{term_steady, negation_steady}
+use Rattle.pv_meaning.specs.Steady.{mentions, Steady, IsTerm}
+use Rattle.pv_picks.specs.Positions.{IsRepeated, ConfinedFormula, ConfinedItems, ConfinedItem}
 use Rattle.pv_picks.proofs.Clean.{Clean}
 use Rattle.pv_picks.proofs.Layers.{layer_of, each_layer_of, kind_at_roll, each_at_roll, expr_at_roll, part_in_piece}
 use Rattle.pv_picks.proofs.Settling.{settled}
 use Rattle.pv_picks.proofs.References.{is_reference, target_reference, array_reference, typed_no_reference, element_no_reference, operator_no_reference, old_reference}
 use Rattle.pv_picks.proofs.Looks.{TermLooks, term_looks, position_mentions}
-use Rattle.pv_picks.proofs.Terms.{FormSays, Says, term_says, negation_term, few_uses, operator_part, element_part, comparison_looks, permission_confined, shifted_confined, formula_if, together_confined, implied_confined}
+use Rattle.pv_picks.proofs.Terms.{says_repeated, ComparedLooks, FormSays, Says, term_says, negation_term, few_uses, operator_part, element_part, comparison_looks, permission_confined, shifted_confined, formula_if, together_confined, implied_confined}
 
 -- Lists of faults
 
@@ -60,32 +62,42 @@ part_item clause false t fault h = absurd cc
 
 -- The laws of a kind, of a quantifier and of an expression
 
--- what the shape of a part says of what it becomes: of the expression, by its facts; of a reference that may stand in an item; of the
--- formula, where quantifiers stand in right places; of all of them, where it is an item for the position; and of those that its parts
--- become, where these are items
-pub record Kept (name : Name) (t : Typing) (f : Facts) (kind : Option shapes.Item) (faults : List ShapeFault) (parts : Whole → List ShapeFault) (e : Expression) (formula_at : Option Span → Formula) (items_at : Option Span → Items) (item_at : Option Span → Item) : Type 0 where
+-- what the shape of a part says of what it becomes: of the expression, by its facts; of a reference that may stand in an item; of
+-- the formula, where quantifiers stand in right places; of all of them, where it is an item for the position; and of those that
+-- its parts become, where these are items
+pub record Kept (name : Name) (t : Typing) (f : Facts) (kind : Option shapes.Item) (faults : List ShapeFault)
+    (parts : Whole → List ShapeFault) (e : Expression) (formula_at : Option Span → Formula) (items_at : Option Span → Items)
+    (item_at : Option Span → Item) : Type 0 where
   pub says : Says name f e
   pub reference : is_reference t ≡ true → is_some (item_of_use f.uses) ≡ true → IsTerm name e
   pub plain : is_some (item_of_pure f) ≡ true → is_some kind ≡ true
   pub formula : faults ≡ [] → (around : Option Span) → ConfinedFormula (formula_at around)
-  pub whole : is_some kind ≡ true → (around : Option Span) → ConfinedFormula (formula_at around) × ConfinedItems name (items_at around) × ConfinedItem name (item_at around)
-  pub joined : (w : Whole) → parts w ≡ [] → (around : Option Span) → ConfinedFormula (formula_at around) × ConfinedItems name (items_at around)
+  pub whole : is_some kind ≡ true → (around : Option Span) → ConfinedFormula (formula_at around)
+      × ConfinedItems name (items_at around) × ConfinedItem name (item_at around)
+  pub joined : (w : Whole) → parts w ≡ [] → (around : Option Span) → ConfinedFormula (formula_at around)
+      × ConfinedItems name (items_at around)
 
 abbrev pub KindLaw : KindPiece → Type 0
 KindLaw k = (name : Name) (span : Span) (a : Around) (v : Visible) (c : Context) → Clean (k.part.faults span a v c)
-    → Kept name (k.part.seen a v).typing (k.shape.facts name.0) (k.shape.item name.0) (k.shape.faults span) (λ w. k.shape.parts span w name.0) (k.expression span a v) (λ around. k.formula span around a v) (λ around. k.items span name around a v) (λ around. k.item span name around a v)
+    → Kept name (k.part.seen a v).typing (k.shape.facts name.0) (k.shape.item name.0) (k.shape.faults span)
+    (λ w. k.shape.parts span w name.0) (k.expression span a v) (λ around. k.formula span around a v)
+    (λ around. k.items span name around a v) (λ around. k.item span name around a v)
 
 abbrev pub PieceKept : Name → Around → Visible → Piece → Type 0
-PieceKept name a v p = Kept name (typing_in p.part a v) (p.shape.facts name.0) (p.shape.item name.0) p.shape.faults (λ w. p.shape.parts w name.0) (p.expression a v) (λ around. p.formula around a v) (λ around. p.items name around a v) (λ around. p.item name around a v)
+PieceKept name a v p =
+    Kept name (typing_in p.part a v) (p.shape.facts name.0) (p.shape.item name.0) p.shape.faults (λ w. p.shape.parts w name.0)
+    (p.expression a v) (λ around. p.formula around a v) (λ around. p.items name around a v) (λ around. p.item name around a v)
 
 abbrev pub ExprLaw : Piece → Type 0
-ExprLaw p = (name : Name) (a : Around) (v : Visible) (c : Context) (need : Need) → Clean (p.part.faults a v c need) → PieceKept name a v p
+ExprLaw p = (name : Name) (a : Around) (v : Visible) (c : Context) (need : Need) → Clean (p.part.faults a v c need)
+    → PieceKept name a v p
 
 -- a quantifier is no item, and without a fault its body is made of items at its position
 abbrev pub EachLaw : EachPiece → Type 0
 EachLaw q =
     ((name : Name) → ((q.shape.facts name.0).form ≡ other) × (item_of_pure (q.shape.facts name.0) ≡ None))
-    × ((span : Span) (a : Around) (v : Visible) (c : Context) → Clean (q.part.faults span a v c) → q.shape.faults ≡ [] → (around : Span) → ConfinedFormula (q.formula around a v))
+    × ((span : Span) (a : Around) (v : Visible) (c : Context) → Clean (q.part.faults span a v c) → q.shape.faults ≡ []
+    → (around : Span) → ConfinedFormula (q.formula around a v))
 
 abbrev Kinds : Type 0
 Kinds = (k : ExprKind) × KindLaw (piece_of_kind k)
@@ -110,7 +122,8 @@ either_some : (x y : Option shapes.Item) → is_some (or_else x y) ≡ true → 
 either_some None y h = inr h
 either_some (Some x) y h = inl refl
 
-pure_first : (l : Layer) (name : Name) → is_some (item_of_pure (facts_in_kind (shapes_in l) name.0)) ≡ true → is_some (shapes.item_in_kind (shapes_in l) name.0) ≡ true
+pure_first : (l : Layer) (name : Name) → is_some (item_of_pure (facts_in_kind (shapes_in l) name.0)) ≡ true
+    → is_some (shapes.item_in_kind (shapes_in l) name.0) ≡ true
 pure_first l name h = first_some (item_of_pure (facts_in_kind (shapes_in l) name.0)) (shapes.item_of_kind (shapes_in l) name.0) h
 
 few_pure : (f : Facts) → is_some (item_of_pure f) ≡ true → is_some (item_of_use f.uses) ≡ true
@@ -129,13 +142,19 @@ only_pure f h = by (either_some (item_of_pure f) None h)
     by (inr i) = absurd cc
 
 -- an expression that is a fact as a formula and as an item
-plain : (l : Layer) (name : Name) (t : Typing) (span : Span) (e : Expression) → Says name (facts_in_kind (shapes_in l) name.0) e → (is_reference t ≡ true → is_some (item_of_use (facts_in_kind (shapes_in l) name.0).uses) ≡ true → IsTerm name e)
-    → shapes.item_of_kind (shapes_in l) name.0 ≡ None → ((w : Whole) → shapes.parts_in_kind (shapes_in l) span w name.0 ≡ [] → is_some (shapes.item_in_kind (shapes_in l) name.0) ≡ true)
-    → Kept name t (facts_in_kind (shapes_in l) name.0) (shapes.item_in_kind (shapes_in l) name.0) (shapes.faults_in_kind (shapes_in l) span) (λ w. shapes.parts_in_kind (shapes_in l) span w name.0) e (λ around. core.Fact e (conjunct around span)) (λ around. alone (core.Repeated e (conjunct around span))) (λ around. core.Repeated e (conjunct around span))
+plain : (l : Layer) (name : Name) (t : Typing) (span : Span) (e : Expression) → Says name (facts_in_kind (shapes_in l) name.0) e
+    → (is_reference t ≡ true → is_some (item_of_use (facts_in_kind (shapes_in l) name.0).uses) ≡ true → IsTerm name e)
+    → shapes.item_of_kind (shapes_in l) name.0 ≡ None → ((w : Whole) → shapes.parts_in_kind (shapes_in l) span w name.0 ≡ []
+    → is_some (shapes.item_in_kind (shapes_in l) name.0) ≡ true)
+    → Kept name t (facts_in_kind (shapes_in l) name.0) (shapes.item_in_kind (shapes_in l) name.0)
+    (shapes.faults_in_kind (shapes_in l) span) (λ w. shapes.parts_in_kind (shapes_in l) span w name.0) e
+    (λ around. core.Fact e (conjunct around span)) (λ around. alone (core.Repeated e (conjunct around span)))
+    (λ around. core.Repeated e (conjunct around span))
 plain l name t span e says reference no_kind part =
     let f : Facts = facts_in_kind (shapes_in l) name.0 in
-    let looks : is_some (shapes.item_in_kind (shapes_in l) name.0) ≡ true → TermLooks name (looks_of name e) =
-    λ some. says.looks (only_pure f (subst (λ (k : Option shapes.Item). is_some (or_else (item_of_pure f) k) ≡ true) no_kind some)) false in
+    let looks : is_some (shapes.item_in_kind (shapes_in l) name.0) ≡ true → IsRepeated name e =
+    λ some. says_repeated name f e says
+    (only_pure f (subst (λ (k : Option shapes.Item). is_some (or_else (item_of_pure f) k) ≡ true) no_kind some)) in
     record {
       says = says;
       reference = reference;
@@ -162,7 +181,8 @@ variable_form : (name written : Name) (b : Bool) → FormSays name (facts_of_var
 variable_form name written true = λ h. h
 variable_form name written false = tt
 
-field_form : (name : Name) (b : Bool) (e : Expression) (class field : Name) (span : Span) → (IsTerm name e) → FormSays name (facts_of_variable b).form (core.Field e class field span)
+field_form : (name : Name) (b : Bool) (e : Expression) (class field : Name) (span : Span) → (IsTerm name e)
+    → FormSays name (facts_of_variable b).form (core.Field e class field span)
 field_form name true e class field span h = λ i. h
 field_form name false e class field span h = tt
 
@@ -170,11 +190,13 @@ few_same : (b : Bool) → is_some (item_of_use (facts_of_variable b).uses) ≡ t
 few_same true h = absurd cc
 few_same false h = refl
 
-name_term : (name : Name) (a : Around) (span : Span) (written : Name) (o : Option Declared) → nat_eq written.0 name.0 ≡ false → IsTerm name (named a span written o)
+name_term : (name : Name) (a : Around) (span : Span) (written : Name) (o : Option Declared) → nat_eq written.0 name.0 ≡ false
+    → IsTerm name (named a span written o)
 name_term name a span written None h = refl
 name_term name a span written (Some d) h = swapped written name h
 
-name_form : (name : Name) (a : Around) (span : Span) (written : Name) (o : Option Declared) → FormSays name (facts_of_variable (nat_eq written.0 name.0)).form (named a span written o)
+name_form : (name : Name) (a : Around) (span : Span) (written : Name) (o : Option Declared)
+    → FormSays name (facts_of_variable (nat_eq written.0 name.0)).form (named a span written o)
 name_form name a span written None = field_form name (nat_eq written.0 name.0) core.This a.class written span refl
 name_form name a span written (Some d) = variable_form name written (nat_eq written.0 name.0)
 
@@ -186,26 +208,31 @@ no_position name e h = by (is_position name e) refl
     by false is = refl
 
 -- a part that is a term wherever items allow it
-term_part : (name : Name) (f : Facts) (e : Expression) → (is_used f.uses ≡ false → IsTerm name e) → FormSays name f.form e → (is_some (item_of_use f.uses) ≡ true → IsTerm name e) → Says name f e
+term_part : (name : Name) (f : Facts) (e : Expression) → (is_used f.uses ≡ false → IsTerm name e) → FormSays name f.form e
+    → (is_some (item_of_use f.uses) ≡ true → IsTerm name e) → Says name f e
 term_part name f e term form few = record {
   term = term;
   form = form;
   looks = λ h old. term_looks name old e (few h);
   apart = λ h. no_position name e (few h);
+  steady = λ s u. term_steady name s e (few (subst (λ (w : Use). is_some (item_of_use w) ≡ true) (sym u) refl));
 }
 
 -- a term
 always_term : (name : Name) (f : Facts) (e : Expression) → IsTerm name e → FormSays name f.form e → Says name f e
 always_term name f e h form = term_part name f e (λ none. h) form (λ few. h)
 
-name_says : (name : Name) (a : Around) (span : Span) (written : Name) (o : Option Declared) → Says name (facts_of_variable (nat_eq written.0 name.0)) (named a span written o)
+name_says : (name : Name) (a : Around) (span : Span) (written : Name) (o : Option Declared)
+    → Says name (facts_of_variable (nat_eq written.0 name.0)) (named a span written o)
 name_says name a span written o =
-    term_part name (facts_of_variable (nat_eq written.0 name.0)) (named a span written o) (λ none. name_term name a span written o (used_same (nat_eq written.0 name.0) none)) (name_form name a span written o)
+    term_part name (facts_of_variable (nat_eq written.0 name.0)) (named a span written o)
+    (λ none. name_term name a span written o (used_same (nat_eq written.0 name.0) none)) (name_form name a span written o)
     (λ few. name_term name a span written o (few_same (nat_eq written.0 name.0) few))
 
 -- Fields and lengths
 
-member_term : (name : Name) (b : Bool) (e : Expression) (type : PvType) (class field : Name) (span : Span) → IsTerm name e → IsTerm name (if b then core.Length type e span else core.Field e class field span)
+member_term : (name : Name) (b : Bool) (e : Expression) (type : PvType) (class field : Name) (span : Span) → IsTerm name e
+    → IsTerm name (if b then core.Length type e span else core.Field e class field span)
 member_term name true e type class field span h = h
 member_term name false e type class field span h = h
 
@@ -215,15 +242,19 @@ token_some : (t : Bool) → is_some (item_if t shapes.committed) ≡ true → t 
 token_some true h = refl
 token_some false h = absurd cc
 
-token_item : (t : Token) (p : Piece) (name : Name) (a : Around) (v : Visible) (span : Span) (around : Option Span) → PieceKept name a v p → is_some (item_of_token t (p.shape.facts name.0)) ≡ true → ConfinedItem name (item_in_kind (ExprKind-F.Token t p) span name around a v)
-token_item token.Idle p name a v span around h is = tt
-token_item token.Running p name a v span around h is = tt
-token_item token.Committed p name a v span around h is = term_says name (p.shape.facts name.0) (p.expression a v) (token_some (is_term (p.shape.facts name.0)) is) h.says
-token_item token.Uncommitted p name a v span around h is = tt
+token_item : (t : Token) (p : Piece) (name : Name) (a : Around) (v : Visible) (span : Span) (around : Option Span)
+    → PieceKept name a v p → is_some (item_of_token t (p.shape.facts name.0)) ≡ true
+    → ConfinedItem name (item_in_kind (ExprKind-F.Token t p) span name around a v)
+token_item token.Idle p name a v span around h is = (tt, inr tt)
+token_item token.Running p name a v span around h is = (tt, inr tt)
+token_item token.Committed p name a v span around h is =
+    term_says name (p.shape.facts name.0) (p.expression a v) (token_some (is_term (p.shape.facts name.0)) is) h.says
+token_item token.Uncommitted p name a v span around h is = (tt, inr tt)
 
 token_law : (t : Token) (p : Piece) → ExprLaw p → LayerLaw (ExprKind-F.Token t p)
 token_law t p law = λ name span a v c clean.
-    let item : is_some (item_of_token t (p.shape.facts name.0)) ≡ true → (around : Option Span) → ConfinedItem name (item_in_kind (ExprKind-F.Token t p) span name around a v) =
+    let item : is_some (item_of_token t (p.shape.facts name.0)) ≡ true → (around : Option Span)
+    → ConfinedItem name (item_in_kind (ExprKind-F.Token t p) span name around a v) =
     λ is around. token_item t p name a v span around (law name a v c AnObject clean.1.0) is in
     record {
       says = always_term name _ _ refl tt;
@@ -238,9 +269,12 @@ token_law t p law = λ name span a v c clean.
 
 permission_law : (p : Piece) (part whole : ℕ) (amount : Span) → ExprLaw p → LayerLaw (ExprKind-F.Perm p part whole amount)
 permission_law p part whole amount law = λ name span a v c clean.
-    let item : (around : Option Span) → ConfinedItem name (item_in_kind (ExprKind-F.Perm p part whole amount) span name around a v) =
-    λ around. shifted_confined name (p.shape.facts name.0).form (units_of part whole) (conjunct around span) (p.expression a v) (law name a v c Anything clean.1.1.0).says.form in
-    let formula : (around : Option Span) → ConfinedFormula (formula_in_kind (ExprKind-F.Perm p part whole amount) span around a v) =
+    let item : (around : Option Span) → ConfinedItem name (item_in_kind
+    (ExprKind-F.Perm p part whole amount) span name around a v) =
+    λ around. shifted_confined name (p.shape.facts name.0).form (units_of part whole) (conjunct around span) (p.expression a v)
+    (law name a v c Anything clean.1.1.0).says.form in
+    let formula : (around : Option Span) → ConfinedFormula (formula_in_kind
+    (ExprKind-F.Perm p part whole amount) span around a v) =
     λ around. permission_confined (type_of_piece p a v) (units_of part whole) (conjunct around span) (p.expression a v) in
     record {
       says = always_term name _ _ refl tt;
@@ -254,19 +288,22 @@ permission_law p part whole amount law = λ name span a v c clean.
 -- Operators
 
 -- two pure parts
-both_pure : (f g : Facts) (o : Operator) → is_some (item_of_pure (facts_of_operator o f g)) ≡ true → (is_some (item_of_pure f) ≡ true) × (is_some (item_of_pure g) ≡ true)
+both_pure : (f g : Facts) (o : Operator) → is_some (item_of_pure (facts_of_operator o f g)) ≡ true
+    → (is_some (item_of_pure f) ≡ true) × (is_some (item_of_pure g) ≡ true)
 both_pure f g o h = by f.pure g.pure h
   where
-    by : (p q : Bool) → is_some (if p && q then item_of_use (both_uses f.uses g.uses) else None) ≡ true → (is_some (if p then item_of_use f.uses else None) ≡ true) × (is_some (if q then item_of_use g.uses else None) ≡ true)
+    by : (p q : Bool) → is_some (if p && q then item_of_use (both_uses f.uses g.uses) else None) ≡ true
+        → (is_some (if p then item_of_use f.uses else None) ≡ true) × (is_some (if q then item_of_use g.uses else None) ≡ true)
     by true true k = few_uses f.uses g.uses k
     by true false k = absurd cc
     by false q k = absurd cc
 
 -- what stands behind an implication that is an item, and what that looks at where it is a fact
-pub record Behind (name : Name) (form : Form) (fact : Expression) (formula_at : Option Span → Formula) (item_at : Option Span → Item) : Type 0 where
+pub record Behind (name : Name) (form : Form) (fact : Expression) (formula_at : Option Span → Formula)
+    (item_at : Option Span → Item) : Type 0 where
   pub formula : (around : Option Span) → ConfinedFormula (formula_at around)
   pub item : is_guard form ≡ true → (around : Option Span) → ConfinedItem name (item_at around)
-  pub looks : is_fixing form ≡ false → is_guard form ≡ false → TermLooks name (looks_of name fact)
+  pub looks : is_fixing form ≡ false → is_guard form ≡ false → IsRepeated name fact
 
 guarded_some : (o : Option shapes.Item) → is_some (guarded_item o) ≡ true → is_some o ≡ true
 guarded_some None h = absurd cc
@@ -283,23 +320,39 @@ nothing_in (f ∷ fs) h = absurd cc
 abbrev BehindOf : Name → Form → Expression → Piece → Around → Visible → Type 0
 BehindOf name form fact y a v = Behind name form fact (λ around. y.formula around a v) (λ around. y.item name around a v)
 
-behind_implication : (name : Name) (f g : Facts) (fact : Expression) (y : Piece) (a : Around) (v : Visible) → PieceKept name a v y → is_some (item_of_implication f g (y.shape.item name.0) y.shape.faults) ≡ true → BehindOf name f.form fact y a v
+behind_implication : (name : Name) (f g : Facts) (fact : Expression) (y : Piece) (a : Around) (v : Visible) → PieceKept name a v y
+    → is_some (item_of_implication f g (y.shape.item name.0) y.shape.faults) ≡ true → BehindOf name f.form fact y a v
 behind_implication name f g fact y a v k some = by (is_guard f.form) refl some
   where
-    by : (b : Bool) → is_guard f.form ≡ b → is_some (if b then guarded_item (y.shape.item name.0) else item_if (is_fixing f.form && is_term g && is_empty y.shape.faults) shapes.fixed) ≡ true → BehindOf name f.form fact y a v
+    by : (b : Bool) → is_guard f.form ≡ b → is_some (if b then guarded_item (y.shape.item name.0) else item_if
+        (is_fixing f.form && is_term g && is_empty y.shape.faults) shapes.fixed) ≡ true → BehindOf name f.form fact y a v
     by true is h =
         let w = k.whole (guarded_some (y.shape.item name.0) h) in
-        record { formula = λ around. (w around).0; item = λ i around. (w around).2; looks = λ no_fixing no_guard. absurd (both_ways (is_guard f.form) no_guard is) }
+        record {
+          formula = λ around. (w around).0;
+          item = λ i around. (w around).2;
+          looks = λ no_fixing no_guard. absurd (both_ways (is_guard f.form) no_guard is);
+        }
     by false is h =
-        let all = and_parts (is_fixing f.form && is_term g) (is_empty y.shape.faults) (item_some (is_fixing f.form && is_term g && is_empty y.shape.faults) shapes.fixed h) in
+        let all =
+        and_parts (is_fixing f.form && is_term g) (is_empty y.shape.faults)
+        (item_some (is_fixing f.form && is_term g && is_empty y.shape.faults) shapes.fixed h) in
         record {
           formula = k.formula (nothing_in y.shape.faults all.1);
           item = λ i around. absurd (both_ways (is_guard f.form) is i);
-          looks = λ no_fixing no_guard. absurd (both_ways (is_fixing f.form) no_fixing (and_parts (is_fixing f.form) (is_term g) all.0).0);
+          looks =
+              λ no_fixing no_guard. absurd (both_ways (is_fixing f.form) no_fixing
+              (and_parts (is_fixing f.form) (is_term g) all.0).0);
         }
 
-behind_whole : (name : Name) (form : Form) (fact : Expression) (y : Piece) (a : Around) (v : Visible) → PieceKept name a v y → is_some (y.shape.item name.0) ≡ true → TermLooks name (looks_of name fact) → BehindOf name form fact y a v
-behind_whole name form fact y a v k some looks = let w = k.whole some in record { formula = λ around. (w around).0; item = λ i around. (w around).2; looks = λ no_fixing no_guard. looks }
+behind_whole : (name : Name) (form : Form) (fact : Expression) (y : Piece) (a : Around) (v : Visible) → PieceKept name a v y
+    → is_some (y.shape.item name.0) ≡ true → IsRepeated name fact → BehindOf name form fact y a v
+behind_whole name form fact y a v k some looks =
+    let w = k.whole some in record {
+      formula = λ around. (w around).0;
+      item = λ i around. (w around).2;
+      looks = λ no_fixing no_guard. looks;
+    }
 
 abbrev binary : Operator → Piece → Piece → Layer
 binary o x y = ExprKind-F.Binary o x y
@@ -307,15 +360,22 @@ binary o x y = ExprKind-F.Binary o x y
 abbrev FormulaOf : Operator → Piece → Piece → Span → Option Span → Around → Visible → Type 0
 FormulaOf o x y span around a v = ConfinedFormula (formula_in_kind (binary o x y) span around a v)
 
-joined_formula : (o : Operator) (x y : Piece) (span : Span) (around : Option Span) (a : Around) (v : Visible) → ConfinedFormula (joined o around span x y a v) → FormulaOf o x y span around a v
-joined_formula o x y span around a v h = formula_if (is_fact around o (is_pure (binary o x y))) _ (joined o around span x y a v) tt h
+joined_formula : (o : Operator) (x y : Piece) (span : Span) (around : Option Span) (a : Around) (v : Visible)
+    → ConfinedFormula (joined o around span x y a v) → FormulaOf o x y span around a v
+joined_formula o x y span around a v h =
+    formula_if (is_fact around o (is_pure (binary o x y))) _ (joined o around span x y a v) tt h
 
 -- where quantifiers stand in right places
-operator_formula : (o : Operator) (x y : Piece) (span : Span) (a : Around) (v : Visible) → (x.shape.faults ≡ [] → (around : Option Span) → ConfinedFormula (x.formula around a v)) → (y.shape.faults ≡ [] → (around : Option Span) → ConfinedFormula (y.formula around a v))
+operator_formula : (o : Operator) (x y : Piece) (span : Span) (a : Around) (v : Visible)
+    → (x.shape.faults ≡ [] → (around : Option Span) → ConfinedFormula (x.formula around a v))
+    → (y.shape.faults ≡ [] → (around : Option Span) → ConfinedFormula (y.formula around a v))
     → faults_of_operator o x.shape y.shape ≡ [] → (around : Option Span) → ConfinedFormula (joined o around span x y a v)
-operator_formula op.And x y span a v h k none around = (h (no_first x.shape.faults y.shape.faults none) around, k (no_second x.shape.faults y.shape.faults none) around)
-operator_formula op.Star x y span a v h k none around = (h (no_first x.shape.faults y.shape.faults none) around, k (no_second x.shape.faults y.shape.faults none) around)
-operator_formula op.Implies x y span a v h k none around = k (no_second x.shape.quantifiers y.shape.faults none) (Some (conjunct around span))
+operator_formula op.And x y span a v h k none around =
+    (h (no_first x.shape.faults y.shape.faults none) around, k (no_second x.shape.faults y.shape.faults none) around)
+operator_formula op.Star x y span a v h k none around =
+    (h (no_first x.shape.faults y.shape.faults none) around, k (no_second x.shape.faults y.shape.faults none) around)
+operator_formula op.Implies x y span a v h k none around =
+    k (no_second x.shape.quantifiers y.shape.faults none) (Some (conjunct around span))
 operator_formula op.Add x y span a v h k none around = tt
 operator_formula op.Sub x y span a v h k none around = tt
 operator_formula op.Mul x y span a v h k none around = tt
@@ -328,107 +388,160 @@ operator_formula op.Ge x y span a v h k none around = tt
 operator_formula op.Or x y span a v h k none around = tt
 
 abbrev WholeOf : Operator → Piece → Piece → Name → Span → Around → Visible → Option Span → Type 0
-WholeOf o x y name span a v around = ConfinedFormula (joined o around span x y a v) × ConfinedItems name (items_in_kind (binary o x y) span name around a v) × ConfinedItem name (item_in_kind (binary o x y) span name around a v)
+WholeOf o x y name span a v around =
+    ConfinedFormula (joined o around span x y a v) × ConfinedItems name (items_in_kind (binary o x y) span name around a v)
+    × ConfinedItem name (item_in_kind (binary o x y) span name around a v)
 
-both_whole : (x y : Piece) (name : Name) (a : Around) (v : Visible) → PieceKept name a v x → PieceKept name a v y → (o : Operator) → is_some (or_else (item_of_pure (facts_of_operator o (x.shape.facts name.0) (y.shape.facts name.0))) None) ≡ true
+both_whole : (x y : Piece) (name : Name) (a : Around) (v : Visible) → PieceKept name a v x → PieceKept name a v y → (o : Operator)
+    → is_some (or_else (item_of_pure (facts_of_operator o (x.shape.facts name.0) (y.shape.facts name.0))) None) ≡ true
     → (is_some (x.shape.item name.0) ≡ true) × (is_some (y.shape.item name.0) ≡ true)
-both_whole x y name a v h k o some = by (either_some (item_of_pure (facts_of_operator o (x.shape.facts name.0) (y.shape.facts name.0))) None some)
+both_whole x y name a v h k o some =
+    by (either_some (item_of_pure (facts_of_operator o (x.shape.facts name.0) (y.shape.facts name.0))) None some)
   where
-    by : (is_some (item_of_pure (facts_of_operator o (x.shape.facts name.0) (y.shape.facts name.0))) ≡ true) ⊎ (false ≡ true) → (is_some (x.shape.item name.0) ≡ true) × (is_some (y.shape.item name.0) ≡ true)
+    by : (is_some (item_of_pure (facts_of_operator o (x.shape.facts name.0) (y.shape.facts name.0))) ≡ true) ⊎ (false ≡ true)
+        → (is_some (x.shape.item name.0) ≡ true) × (is_some (y.shape.item name.0) ≡ true)
     by (inl i) = let two = both_pure (x.shape.facts name.0) (y.shape.facts name.0) o i in (h.plain two.0, k.plain two.1)
     by (inr i) = absurd cc
 
 abbrev operation_of : Operator → Piece → Piece → Span → Around → Visible → Expression
 operation_of o x y span a v = operation o span (x.expression a v) (y.expression a v)
 
-pure_looks : (o : Operator) (x y : Piece) (name : Name) (span : Span) (a : Around) (v : Visible) → PieceKept name a v x → PieceKept name a v y → is_some (item_of_pure (facts_of_operator o (x.shape.facts name.0) (y.shape.facts name.0))) ≡ true → TermLooks name (looks_of name (operation_of o x y span a v))
+pure_looks : (o : Operator) (x y : Piece) (name : Name) (span : Span) (a : Around) (v : Visible) → PieceKept name a v x
+    → PieceKept name a v y → is_some (item_of_pure (facts_of_operator o (x.shape.facts name.0) (y.shape.facts name.0))) ≡ true
+    → IsRepeated name (operation_of o x y span a v)
 pure_looks o x y name span a v h k some =
-    (operator_part name o span (x.shape.facts name.0) (y.shape.facts name.0) (x.expression a v) (y.expression a v) h.says k.says).looks (few_pure (facts_of_operator o (x.shape.facts name.0) (y.shape.facts name.0)) some) false
+    says_repeated name (facts_of_operator o (x.shape.facts name.0) (y.shape.facts name.0)) (operation_of o x y span a v)
+    (operator_part name o span (x.shape.facts name.0) (y.shape.facts name.0) (x.expression a v) (y.expression a v) h.says k.says)
+    (few_pure (facts_of_operator o (x.shape.facts name.0) (y.shape.facts name.0)) some)
 
 behind_item : (x y : Piece) (name : Name) (span : Span) (a : Around) (v : Visible) → PieceKept name a v x → PieceKept name a v y
-    → is_some (or_else (item_of_pure (facts_of_operator op.Implies (x.shape.facts name.0) (y.shape.facts name.0))) (item_of_implication (x.shape.facts name.0) (y.shape.facts name.0) (y.shape.item name.0) y.shape.faults)) ≡ true
+    → is_some (or_else (item_of_pure (facts_of_operator op.Implies (x.shape.facts name.0) (y.shape.facts name.0)))
+    (item_of_implication (x.shape.facts name.0) (y.shape.facts name.0) (y.shape.item name.0) y.shape.faults)) ≡ true
     → BehindOf name (x.shape.facts name.0).form (operation_of op.Implies x y span a v) y a v
 behind_item x y name span a v h k some = by (either_some _ _ some)
   where
-    by : (is_some (item_of_pure (facts_of_operator op.Implies (x.shape.facts name.0) (y.shape.facts name.0))) ≡ true) ⊎ (is_some (item_of_implication (x.shape.facts name.0) (y.shape.facts name.0) (y.shape.item name.0) y.shape.faults) ≡ true) → BehindOf name (x.shape.facts name.0).form (operation_of op.Implies x y span a v) y a v
+    by : (is_some (item_of_pure (facts_of_operator op.Implies (x.shape.facts name.0) (y.shape.facts name.0))) ≡ true)
+        ⊎ (is_some (item_of_implication (x.shape.facts name.0) (y.shape.facts name.0) (y.shape.item name.0) y.shape.faults)
+        ≡ true) → BehindOf name (x.shape.facts name.0).form (operation_of op.Implies x y span a v) y a v
     by (inl i) =
-        behind_whole name (x.shape.facts name.0).form (operation_of op.Implies x y span a v) y a v k (k.plain (both_pure (x.shape.facts name.0) (y.shape.facts name.0) op.Implies i).1) (pure_looks op.Implies x y name span a v h k i)
-    by (inr i) = behind_implication name (x.shape.facts name.0) (y.shape.facts name.0) (operation_of op.Implies x y span a v) y a v k i
+        behind_whole name (x.shape.facts name.0).form (operation_of op.Implies x y span a v) y a v k
+        (k.plain (both_pure (x.shape.facts name.0) (y.shape.facts name.0) op.Implies i).1)
+        (pure_looks op.Implies x y name span a v h k i)
+    by (inr i) =
+        behind_implication name (x.shape.facts name.0) (y.shape.facts name.0) (operation_of op.Implies x y span a v) y a v k i
 
 -- what an operator that is an item by itself looks at
-only_looks : (o : Operator) (x y : Piece) (name : Name) (span : Span) (a : Around) (v : Visible) → PieceKept name a v x → PieceKept name a v y → is_some (or_else (item_of_pure (facts_of_operator o (x.shape.facts name.0) (y.shape.facts name.0))) None) ≡ true → TermLooks name (looks_of name (operation_of o x y span a v))
+only_looks : (o : Operator) (x y : Piece) (name : Name) (span : Span) (a : Around) (v : Visible) → PieceKept name a v x
+    → PieceKept name a v y → is_some (or_else (item_of_pure (facts_of_operator o (x.shape.facts name.0) (y.shape.facts name.0)))
+    None) ≡ true → IsRepeated name (operation_of o x y span a v)
 only_looks o x y name span a v h k some = by (either_some _ _ some)
   where
-    by : (is_some (item_of_pure (facts_of_operator o (x.shape.facts name.0) (y.shape.facts name.0))) ≡ true) ⊎ (false ≡ true) → TermLooks name (looks_of name (operation_of o x y span a v))
+    by : (is_some (item_of_pure (facts_of_operator o (x.shape.facts name.0) (y.shape.facts name.0))) ≡ true) ⊎ (false ≡ true)
+        → IsRepeated name (operation_of o x y span a v)
     by (inl i) = pure_looks o x y name span a v h k i
     by (inr i) = absurd cc
 
 abbrev ComparisonLooks : Piece → Piece → Name → Around → Visible → Type 0
 ComparisonLooks x y name a v =
-    TermLooks name (looks_in name false (compared (y.expression a v) (x.expression a v)) ++ (looks_in name false (compared (x.expression a v) (y.expression a v)) ++ term_beside name (compared (y.expression a v) (x.expression a v)) (compared (x.expression a v) (y.expression a v))))
+    ComparedLooks name (compared (y.expression a v) (x.expression a v)) (compared (x.expression a v) (y.expression a v))
 
 some_if : (b : Bool) (i : shapes.Item) → is_some (item_if b i) ≡ true → b ≡ true
 some_if true i h = refl
 some_if false i h = absurd cc
 
-position_looks : (x y : Piece) (name : Name) (a : Around) (v : Visible) → PieceKept name a v x → PieceKept name a v y → (pure : Option shapes.Item) → (is_some pure ≡ true → ComparisonLooks x y name a v)
-    → is_some (or_else pure (item_of_comparison (x.shape.facts name.0) (y.shape.facts name.0))) ≡ true → ComparisonLooks x y name a v
-position_looks x y name a v h k pure first some = by (either_some pure (item_of_comparison (x.shape.facts name.0) (y.shape.facts name.0)) some)
+position_looks : (x y : Piece) (name : Name) (a : Around) (v : Visible) → PieceKept name a v x → PieceKept name a v y
+    → (pure : Option shapes.Item) → (is_some pure ≡ true → ComparisonLooks x y name a v)
+    → is_some (or_else pure (item_of_comparison (x.shape.facts name.0) (y.shape.facts name.0))) ≡ true
+    → ComparisonLooks x y name a v
+position_looks x y name a v h k pure first some =
+    by (either_some pure (item_of_comparison (x.shape.facts name.0) (y.shape.facts name.0)) some)
   where
-    by : (is_some pure ≡ true) ⊎ (is_some (item_of_comparison (x.shape.facts name.0) (y.shape.facts name.0)) ≡ true) → ComparisonLooks x y name a v
+    by : (is_some pure ≡ true) ⊎ (is_some (item_of_comparison (x.shape.facts name.0) (y.shape.facts name.0)) ≡ true)
+        → ComparisonLooks x y name a v
     by (inl i) = first i
-    by (inr i) = comparison_looks name (x.shape.facts name.0) (y.shape.facts name.0) (x.expression a v) (y.expression a v) h.says k.says (some_if (has_variable_and_term (x.shape.facts name.0) (y.shape.facts name.0)) shapes.position i)
+    by (inr i) =
+        comparison_looks name (x.shape.facts name.0) (y.shape.facts name.0) (x.expression a v) (y.expression a v) h.says k.says
+        (some_if (has_variable_and_term (x.shape.facts name.0) (y.shape.facts name.0)) shapes.position i)
 
 -- an operator between two parts that is an item
-operator_whole : (o : Operator) (x y : Piece) (name : Name) (span : Span) (a : Around) (v : Visible) → PieceKept name a v x → PieceKept name a v y
-    → is_some (or_else (item_of_pure (facts_of_operator o (x.shape.facts name.0) (y.shape.facts name.0))) (item_of_operator o (x.shape.facts name.0) (y.shape.facts name.0) (y.shape.item name.0) y.shape.faults)) ≡ true
+operator_whole : (o : Operator) (x y : Piece) (name : Name) (span : Span) (a : Around) (v : Visible) → PieceKept name a v x
+    → PieceKept name a v y
+    → is_some (or_else (item_of_pure (facts_of_operator o (x.shape.facts name.0) (y.shape.facts name.0)))
+    (item_of_operator o (x.shape.facts name.0) (y.shape.facts name.0) (y.shape.item name.0) y.shape.faults)) ≡ true
     → (around : Option Span) → WholeOf o x y name span a v around
 operator_whole op.And x y name span a v h k some around =
     let two = both_whole x y name a v h k op.And some in
     let p = h.whole two.0 around in
-    let q = k.whole two.1 around in
-    ((p.0, q.0), together_confined name (x.items name around a v) (y.items name around a v) p.1 q.1, only_looks op.And x y name span a v h k some)
+    let q = k.whole two.1 around in (
+      (p.0, q.0),
+      together_confined name (x.items name around a v) (y.items name around a v) p.1 q.1,
+      only_looks op.And x y name span a v h k some,
+    )
 operator_whole op.Star x y name span a v h k some around =
     let two = both_whole x y name a v h k op.Star some in
     let p = h.whole two.0 around in
-    let q = k.whole two.1 around in
-    ((p.0, q.0), together_confined name (x.items name around a v) (y.items name around a v) p.1 q.1, only_looks op.Star x y name span a v h k some)
+    let q = k.whole two.1 around in (
+      (p.0, q.0),
+      together_confined name (x.items name around a v) (y.items name around a v) p.1 q.1,
+      only_looks op.Star x y name span a v h k some,
+    )
 operator_whole op.Implies x y name span a v h k some around =
     let b = behind_item x y name span a v h k some in
     let c : Span = conjunct around span in
-    let item = implied_confined name (x.shape.facts name.0).form c (x.expression a v) (y.formula (Some c) a v) (y.item name (Some c) a v) (core.Implies (x.expression a v) (y.expression a v)) h.says.form (λ is. b.formula (Some c)) (λ is. b.item is (Some c)) b.looks in
+    let item =
+    implied_confined name (x.shape.facts name.0).form c (x.expression a v) (y.formula (Some c) a v) (y.item name (Some c) a v)
+    (core.Implies (x.expression a v) (y.expression a v)) h.says.form (λ is. b.formula (Some c))
+    (λ is. b.item is (Some c)) b.looks in
     (b.formula (Some c), (item, tt), item)
-operator_whole op.Add x y name span a v h k some around = let item = only_looks op.Add x y name span a v h k some in (tt, (item, tt), item)
-operator_whole op.Sub x y name span a v h k some around = let item = only_looks op.Sub x y name span a v h k some in (tt, (item, tt), item)
-operator_whole op.Mul x y name span a v h k some around = let item = only_looks op.Mul x y name span a v h k some in (tt, (item, tt), item)
-operator_whole op.Eq x y name span a v h k some around = let item = position_looks x y name a v h k _ (pure_looks op.Eq x y name span a v h k) some in (tt, (item, tt), item)
-operator_whole op.Ne x y name span a v h k some around = let item = position_looks x y name a v h k _ (pure_looks op.Ne x y name span a v h k) some in (tt, (item, tt), item)
-operator_whole op.Lt x y name span a v h k some around = let item = position_looks x y name a v h k _ (pure_looks op.Lt x y name span a v h k) some in (tt, (item, tt), item)
-operator_whole op.Le x y name span a v h k some around = let item = position_looks x y name a v h k _ (pure_looks op.Le x y name span a v h k) some in (tt, (item, tt), item)
-operator_whole op.Gt x y name span a v h k some around = let item = position_looks x y name a v h k _ (pure_looks op.Gt x y name span a v h k) some in (tt, (item, tt), item)
-operator_whole op.Ge x y name span a v h k some around = let item = position_looks x y name a v h k _ (pure_looks op.Ge x y name span a v h k) some in (tt, (item, tt), item)
-operator_whole op.Or x y name span a v h k some around = let item = only_looks op.Or x y name span a v h k some in (tt, (item, tt), item)
+operator_whole op.Add x y name span a v h k some around =
+    let item = only_looks op.Add x y name span a v h k some in (tt, (item, tt), item)
+operator_whole op.Sub x y name span a v h k some around =
+    let item = only_looks op.Sub x y name span a v h k some in (tt, (item, tt), item)
+operator_whole op.Mul x y name span a v h k some around =
+    let item = only_looks op.Mul x y name span a v h k some in (tt, (item, tt), item)
+operator_whole op.Eq x y name span a v h k some around =
+    let item = position_looks x y name a v h k _ (pure_looks op.Eq x y name span a v h k) some in (tt, (item, tt), item)
+operator_whole op.Ne x y name span a v h k some around =
+    let item = position_looks x y name a v h k _ (pure_looks op.Ne x y name span a v h k) some in (tt, (item, tt), item)
+operator_whole op.Lt x y name span a v h k some around =
+    let item = position_looks x y name a v h k _ (pure_looks op.Lt x y name span a v h k) some in (tt, (item, tt), item)
+operator_whole op.Le x y name span a v h k some around =
+    let item = position_looks x y name a v h k _ (pure_looks op.Le x y name span a v h k) some in (tt, (item, tt), item)
+operator_whole op.Gt x y name span a v h k some around =
+    let item = position_looks x y name a v h k _ (pure_looks op.Gt x y name span a v h k) some in (tt, (item, tt), item)
+operator_whole op.Ge x y name span a v h k some around =
+    let item = position_looks x y name a v h k _ (pure_looks op.Ge x y name span a v h k) some in (tt, (item, tt), item)
+operator_whole op.Or x y name span a v h k some around =
+    let item = only_looks op.Or x y name span a v h k some in (tt, (item, tt), item)
 
 abbrev JoinedOf : Operator → Piece → Piece → Name → Span → Around → Visible → Option Span → Type 0
-JoinedOf o x y name span a v around = ConfinedFormula (joined o around span x y a v) × ConfinedItems name (items_in_kind (binary o x y) span name around a v)
+JoinedOf o x y name span a v around =
+    ConfinedFormula (joined o around span x y a v) × ConfinedItems name (items_in_kind (binary o x y) span name around a v)
 
-two_joined : (x y : Piece) (name : Name) (span : Span) (a : Around) (v : Visible) → PieceKept name a v x → PieceKept name a v y → (w : Whole) → x.shape.parts w name.0 ++ y.shape.parts w name.0 ≡ [] → (around : Option Span) → JoinedOf op.Star x y name span a v around
+two_joined : (x y : Piece) (name : Name) (span : Span) (a : Around) (v : Visible) → PieceKept name a v x → PieceKept name a v y
+    → (w : Whole) → x.shape.parts w name.0 ++ y.shape.parts w name.0 ≡ [] → (around : Option Span)
+    → JoinedOf op.Star x y name span a v around
 two_joined x y name span a v h k w none around =
     let p = h.joined w (no_first (x.shape.parts w name.0) (y.shape.parts w name.0) none) around in
     let q = k.joined w (no_second (x.shape.parts w name.0) (y.shape.parts w name.0) none) around in
     ((p.0, q.0), together_confined name (x.items name around a v) (y.items name around a v) p.1 q.1)
 
-joined_whole : (o : Operator) (x y : Piece) (name : Name) (span : Span) (a : Around) (v : Visible) → PieceKept name a v x → PieceKept name a v y → (w : Whole) → part_fault (shapes_in (binary o x y)) span w name.0 ≡ [] → (around : Option Span) → JoinedOf o x y name span a v around
+joined_whole : (o : Operator) (x y : Piece) (name : Name) (span : Span) (a : Around) (v : Visible) → PieceKept name a v x
+    → PieceKept name a v y → (w : Whole) → part_fault (shapes_in (binary o x y)) span w name.0 ≡ [] → (around : Option Span)
+    → JoinedOf o x y name span a v around
 joined_whole o x y name span a v h k w none around =
     let all = operator_whole o x y name span a v h k (part_item w _ _ _ none) around in
     (all.0, all.1)
 
 -- an operator between two parts that is made of items
-operator_joined : (o : Operator) (x y : Piece) (name : Name) (span : Span) (a : Around) (v : Visible) → PieceKept name a v x → PieceKept name a v y → (w : Whole) → shapes.parts_in_kind (shapes_in (binary o x y)) span w name.0 ≡ [] → (around : Option Span) → JoinedOf o x y name span a v around
+operator_joined : (o : Operator) (x y : Piece) (name : Name) (span : Span) (a : Around) (v : Visible) → PieceKept name a v x
+    → PieceKept name a v y → (w : Whole) → shapes.parts_in_kind (shapes_in (binary o x y)) span w name.0 ≡ []
+    → (around : Option Span) → JoinedOf o x y name span a v around
 operator_joined op.And x y name span a v h k w none around = two_joined x y name span a v h k w none around
 operator_joined op.Star x y name span a v h k star_body none around = two_joined x y name span a v h k star_body none around
 operator_joined op.Star x y name span a v h k clause none around = two_joined x y name span a v h k clause none around
-operator_joined op.Star x y name span a v h k truth_body none around = joined_whole op.Star x y name span a v h k truth_body none around
+operator_joined op.Star x y name span a v h k truth_body none around =
+    joined_whole op.Star x y name span a v h k truth_body none around
 operator_joined op.Implies x y name span a v h k w none around = joined_whole op.Implies x y name span a v h k w none around
 operator_joined op.Add x y name span a v h k w none around = joined_whole op.Add x y name span a v h k w none around
 operator_joined op.Sub x y name span a v h k w none around = joined_whole op.Sub x y name span a v h k w none around
@@ -446,12 +559,19 @@ operator_law o x y law_x law_y = λ name span a v c clean.
     let h = law_x name a v (typing.under_left o c) (typing.need_of_operator o) clean.0 in
     let k = law_y name a v (typing.under_right o c) (typing.need_of_operator o) clean.1 in
     record {
-      says = operator_part name o span (x.shape.facts name.0) (y.shape.facts name.0) (x.expression a v) (y.expression a v) h.says k.says;
+      says =
+          operator_part name o span (x.shape.facts name.0) (y.shape.facts name.0) (x.expression a v)
+          (y.expression a v) h.says k.says;
       reference = λ is few. absurd (operator_no_reference o (typing_in x.part a v) (typing_in y.part a v) is);
       plain = pure_first (binary o x y) name;
-      formula = λ none around. joined_formula o x y span around a v (operator_formula o x y span a v h.formula k.formula none around);
-      whole = λ some around. let all = operator_whole o x y name span a v h k some around in (joined_formula o x y span around a v all.0, all.1, all.2);
-      joined = λ w none around. let all = operator_joined o x y name span a v h k w none around in (joined_formula o x y span around a v all.0, all.1);
+      formula =
+          λ none around. joined_formula o x y span around a v (operator_formula o x y span a v h.formula k.formula none around);
+      whole =
+          λ some around. let all = operator_whole o x y name span a v h k some around in
+          (joined_formula o x y span around a v all.0, all.1, all.2);
+      joined =
+          λ w none around. let all = operator_joined o x y name span a v h k w none around in
+          (joined_formula o x y span around a v all.0, all.1);
     }
 
 -- Instances
@@ -462,8 +582,8 @@ instance_law o w ps = λ name span a v c clean. record {
   reference = λ is few. refl;
   plain = λ is. absurd cc;
   formula = λ none around. tt;
-  whole = λ some around. (tt, (tt, tt), tt);
-  joined = λ w none around. (tt, (tt, tt));
+  whole = λ some around. (tt, ((tt, inr tt), tt), (tt, inr tt));
+  joined = λ w none around. (tt, ((tt, inr tt), tt));
 }
 
 -- Quantifiers
@@ -485,74 +605,116 @@ quantifier_law q law = λ name span a v c clean. record {
   joined = λ w none around. absurd (no_item_none (item_of_pure (q.shape.facts name.0)) (law.0 name).1 (part_item w _ _ _ none));
 }
 
-each_law : (star : Bool) (w : Word) (low high body : Piece) (written : Option (Word × Word)) → ExprLaw body → EachLaw (piece_in_each (record { star = star; name = w; low = low; high = high; body = body; written = written }))
+each_law : (star : Bool) (w : Word) (low high body : Piece) (written : Option (Word × Word)) → ExprLaw body
+    → EachLaw (piece_in_each (record { star = star; name = w; low = low; high = high; body = body; written = written }))
 each_law star w low high body written law = (
   λ name. (refl, refl),
   λ span a v c clean none around.
-      ((law w.name a (with_bound v w) (under_quantifier star c) (Exactly Truth) clean.1.1.1.1.0).joined (body_of star) (no_second (low.shape.quantifiers ++ high.shape.quantifiers) (body.shape.parts (body_of star) w.name.0) none) (Some around)).1,
+      ((law w.name a (with_bound v w) (under_quantifier star c) (Exactly Truth) clean.1.1.1.1.0).joined (body_of star)
+      (no_second (low.shape.quantifiers ++ high.shape.quantifiers) (body.shape.parts (body_of star) w.name.0) none)
+      (Some around)).1,
 )
 
 -- The induction
 
 -- the type that is needed of a part without a fault
-meets_piece : (e : Expr) (a : Around) (v : Visible) (c : Context) (need : Need) → Clean ((piece_of e).part.faults a v c need) → typing.meets need (typing_in (piece_of e).part a v) ≡ true
-meets_piece e a v c need = subst (λ (p : Part). Clean (p.faults a v c need) → typing.meets need (typing_in p a v) ≡ true) (sym (part_in_piece e)) (settled e a v c need)
+meets_piece : (e : Expr) (a : Around) (v : Visible) (c : Context) (need : Need) → Clean ((piece_of e).part.faults a v c need)
+    → typing.meets need (typing_in (piece_of e).part a v) ≡ true
+meets_piece e a v c need =
+    subst (λ (p : Part). Clean (p.faults a v c need) → typing.meets need (typing_in p a v) ≡ true) (sym (part_in_piece e))
+    (settled e a v c need)
 
 -- an expression of one part
-around_says : (name : Name) (f : Facts) (e e' : Expression) → (IsTerm name e → IsTerm name e') → ((old : Bool) → TermLooks name (looks_in name true e) → TermLooks name (looks_in name old e) → TermLooks name (looks_in name old e')) → is_position name e' ≡ false → Says name f e → Says name (shapes.facts_around f) e'
-around_says name f e e' same looks apart h = record { term = λ none. same (h.term none); form = tt; looks = λ few old. looks old (h.looks few true) (h.looks few old); apart = λ few. apart }
+around_says : (name : Name) (f : Facts) (e e' : Expression) → (IsTerm name e → IsTerm name e')
+    → ((old : Bool) → TermLooks name (looks_in name true e) → TermLooks name (looks_in name old e)
+    → TermLooks name (looks_in name old e')) → is_position name e' ≡ false → ((s : ℤ) → Steady name s e → Steady name s e')
+    → Says name f e → Says name (shapes.facts_around f) e'
+around_says name f e e' same looks apart keeps h =
+    record {
+      term = λ none. same (h.term none);
+      form = tt;
+      looks = λ few old. looks old (h.looks few true) (h.looks few old);
+      apart = λ few. apart;
+      steady = λ s u. keeps s (h.steady s u);
+    }
 
-negation_looks : (name : Name) (written : Option ℕ) (span : Span) (x : Expression) (old : Bool) → TermLooks name (looks_in name old x) → TermLooks name (looks_in name old (negation written span x))
+negation_looks : (name : Name) (written : Option ℕ) (span : Span) (x : Expression) (old : Bool)
+    → TermLooks name (looks_in name old x) → TermLooks name (looks_in name old (negation written span x))
 negation_looks name None span x old h = h
 negation_looks name (Some n) span x old h = tt
 
-negation_apart : (name : Name) (written : Option ℕ) (span : Span) (x : Expression) → is_position name (negation written span x) ≡ false
+negation_apart : (name : Name) (written : Option ℕ) (span : Span) (x : Expression) → is_position name (negation written span x)
+    ≡ false
 negation_apart name None span x = refl
 negation_apart name (Some n) span x = refl
 
 layer_law : (y : ExprKind-F Kinds Eaches Exprs) → LayerLaw (layer_of (without y))
-layer_law (ExprKind-F.Number n) = λ name span a v c clean. plain (ExprKind-F.Number n) name (Typed Int) span _ (always_term name _ _ refl refl) (λ is few. refl) refl (λ w none. part_item w _ _ _ none)
-layer_law (ExprKind-F.Truth b) = λ name span a v c clean. plain (ExprKind-F.Truth b) name (Typed Truth) span _ (always_term name _ _ refl tt) (λ is few. refl) refl (λ w none. part_item w _ _ _ none)
-layer_law ExprKind-F.Null = λ name span a v c clean. plain ExprKind-F.Null name _ span _ (always_term name _ _ refl tt) (λ is few. refl) refl (λ w none. part_item w _ _ _ none)
-layer_law ExprKind-F.This = λ name span a v c clean. plain ExprKind-F.This name _ span _ (always_term name _ _ refl tt) (λ is few. refl) refl (λ w none. part_item w _ _ _ none)
-layer_law ExprKind-F.Result = λ name span a v c clean. plain ExprKind-F.Result name _ span _ (always_term name _ _ refl tt) (λ is few. refl) refl (λ w none. part_item w _ _ _ none)
+layer_law (ExprKind-F.Number n) =
+    λ name span a v c clean. plain (ExprKind-F.Number n) name (Typed Int) span _ (always_term name _ _ refl refl)
+    (λ is few. refl) refl (λ w none. part_item w _ _ _ none)
+layer_law (ExprKind-F.Truth b) =
+    λ name span a v c clean. plain (ExprKind-F.Truth b) name (Typed Truth) span _ (always_term name _ _ refl tt)
+    (λ is few. refl) refl (λ w none. part_item w _ _ _ none)
+layer_law ExprKind-F.Null =
+    λ name span a v c clean. plain ExprKind-F.Null name _ span _ (always_term name _ _ refl tt) (λ is few. refl) refl
+    (λ w none. part_item w _ _ _ none)
+layer_law ExprKind-F.This =
+    λ name span a v c clean. plain ExprKind-F.This name _ span _ (always_term name _ _ refl tt) (λ is few. refl) refl
+    (λ w none. part_item w _ _ _ none)
+layer_law ExprKind-F.Result =
+    λ name span a v c clean. plain ExprKind-F.Result name _ span _ (always_term name _ _ refl tt) (λ is few. refl) refl
+    (λ w none. part_item w _ _ _ none)
 layer_law (ExprKind-F.Var w) = λ name span a v c clean.
-    plain (ExprKind-F.Var w) name _ span _ (name_says name a span w.name (variable_named v w.name)) (λ is few. name_term name a span w.name (variable_named v w.name) (few_same (nat_eq w.name.0 name.0) few)) refl (λ w none. part_item w _ _ _ none)
+    plain (ExprKind-F.Var w) name _ span _ (name_says name a span w.name (variable_named v w.name))
+    (λ is few. name_term name a span w.name (variable_named v w.name) (few_same (nat_eq w.name.0 name.0) few)) refl
+    (λ w none. part_item w _ _ _ none)
 layer_law (ExprKind-F.Field e w) = λ name span a v c clean.
     let p : Piece = piece_of e.0 in
     let t : Typing = typing_in p.part a v in
     let x : Expression = p.expression a v in
     let f : Facts = p.shape.facts name.0 in
     let h = e.1 name a v c (need_of_target a w.name) clean.0 in
-    let same : IsTerm name x → IsTerm name (member_of a span w.name t x) = member_term name (is_array_length a w.name t) x (elements_of t) (class_at t) w.name span in
+    let same : IsTerm name x → IsTerm name (member_of a span w.name t x) =
+    member_term name (is_array_length a w.name t) x (elements_of t) (class_at t) w.name span in
     let few_term : is_some (item_of_use f.uses) ≡ true → IsTerm name (member_of a span w.name t x) =
-    λ few. same (h.reference (target_reference (is_length a w.name) t (meets_piece e.0 a v c (need_of_target a w.name) clean.0)) few) in
-    plain (ExprKind-F.Field p w) name _ span _ (term_part name (shapes.facts_around f) (member_of a span w.name t x) (λ none. same (h.says.term none)) tt few_term) (λ is few. few_term few) refl (λ w none. part_item w _ _ _ none)
+    λ few. same (h.reference (target_reference (is_length a w.name) t (meets_piece e.0 a v c (need_of_target a w.name) clean.0))
+    few) in
+    plain (ExprKind-F.Field p w) name _ span _ (term_part name (shapes.facts_around f) (member_of a span w.name t x)
+    (λ none. same (h.says.term none)) tt few_term) (λ is few. few_term few) refl (λ w none. part_item w _ _ _ none)
 layer_law (ExprKind-F.Index e i) = λ name span a v c clean.
     let p : Piece = piece_of e.0 in
     let q : Piece = piece_of i.0 in
     let h = e.1 name a v c AnArray clean.0 in
     let k = i.1 name a v c (Exactly Int) clean.1 in
     let type : PvType = elements_of (typing_in p.part a v) in
-    plain (ExprKind-F.Index p q) name _ span _ (element_part name (p.shape.facts name.0) (q.shape.facts name.0) type (p.expression a v) (q.expression a v) span h.says k.says (h.reference (array_reference (typing_in p.part a v) (meets_piece e.0 a v c AnArray clean.0))))
-    (λ is few. absurd (element_no_reference (typing_in p.part a v) (typing_in q.part a v) is)) refl (λ w none. part_item w _ _ _ none)
+    plain (ExprKind-F.Index p q) name _ span _ (element_part name (p.shape.facts name.0) (q.shape.facts name.0) type
+    (p.expression a v) (q.expression a v) span h.says k.says
+    (h.reference (array_reference (typing_in p.part a v) (meets_piece e.0 a v c AnArray clean.0))))
+    (λ is few. absurd (element_no_reference (typing_in p.part a v) (typing_in q.part a v) is)) refl
+    (λ w none. part_item w _ _ _ none)
 layer_law (ExprKind-F.Not e) = λ name span a v c clean.
     let p : Piece = piece_of e.0 in
     let h = e.1 name a v (typing.purely c) (Exactly Truth) clean in
-    plain (ExprKind-F.Not p) name _ span _ (around_says name (p.shape.facts name.0) (p.expression a v) (core.Not (p.expression a v)) (λ t. t) (λ old of_old looks. looks) refl h.says)
-    (λ is few. absurd (typed_no_reference (typing.meets (Exactly Truth) (typing_in p.part a v)) Truth refl is)) refl (λ w none. part_item w _ _ _ none)
+    plain (ExprKind-F.Not p) name _ span _ (around_says name (p.shape.facts name.0) (p.expression a v)
+    (core.Not (p.expression a v)) (λ t. t) (λ old of_old looks. looks) refl (λ s k. k) h.says)
+    (λ is few. absurd (typed_no_reference (typing.meets (Exactly Truth) (typing_in p.part a v)) Truth refl is)) refl
+    (λ w none. part_item w _ _ _ none)
 layer_law (ExprKind-F.Minus e) = λ name span a v c clean.
     let p : Piece = piece_of e.0 in
     let x : Expression = p.expression a v in
     let h = e.1 name a v c (Exactly Int) clean in
     plain (ExprKind-F.Minus p) name _ span _
-    (around_says name (p.shape.facts name.0) x (negation p.written span x) (negation_term name p.written span x) (λ old of_old looks. negation_looks name p.written span x old looks) (negation_apart name p.written span x) h.says)
-    (λ is few. absurd (typed_no_reference (typing.meets (Exactly Int) (typing_in p.part a v)) Int refl is)) refl (λ w none. part_item w _ _ _ none)
+    (around_says name (p.shape.facts name.0) x (negation p.written span x) (negation_term name p.written span x)
+    (λ old of_old looks. negation_looks name p.written span x old looks) (negation_apart name p.written span x)
+    (λ s k. negation_steady name s p.written span x k) h.says)
+    (λ is few. absurd (typed_no_reference (typing.meets (Exactly Int) (typing_in p.part a v)) Int refl is)) refl
+    (λ w none. part_item w _ _ _ none)
 layer_law (ExprKind-F.Binary o x y) = operator_law o (piece_of x.0) (piece_of y.0) x.1 y.1
 layer_law (ExprKind-F.Old e) = λ name span a v c clean.
     let p : Piece = piece_of e.0 in
     let h = e.1 name a v (typing.purely c) Anything clean.0 in
-    plain (ExprKind-F.Old p) name _ span _ (around_says name (p.shape.facts name.0) (p.expression a v) (core.Old (p.expression a v)) (λ t. t) (λ old of_old looks. of_old) refl h.says)
+    plain (ExprKind-F.Old p) name _ span _ (around_says name (p.shape.facts name.0) (p.expression a v)
+    (core.Old (p.expression a v)) (λ t. t) (λ old of_old looks. of_old) refl (λ s k. k) h.says)
     (λ is few. h.reference (old_reference (typing_in p.part a v) is) few) refl (λ w none. part_item w _ _ _ none)
 layer_law (ExprKind-F.Perm e part whole amount) = permission_law (piece_of e.0) part whole amount e.1
 layer_law (ExprKind-F.Token t e) = token_law t (piece_of e.0) e.1
@@ -560,10 +722,14 @@ layer_law (ExprKind-F.Instance None w es) = instance_law None w (map piece_of (m
 layer_law (ExprKind-F.Instance (Some e) w es) = instance_law (Some (piece_of e.0)) w (map piece_of (map (λ e. e.0) es))
 layer_law (ExprKind-F.Each q) = quantifier_law (piece_of_each q.0) q.1
 
-kind_step : (x : ExprKind-F ExprKind Each Expr) (y : ExprKind-F Kinds Eaches Exprs) → without y ≡ x → KindLaw (piece_of_kind (roll-ExprKind x))
-kind_step x y is = subst KindLaw (sym (kind_at_roll x)) (subst (λ (z : ExprKind-F ExprKind Each Expr). LayerLaw (layer_of z)) is (layer_law y))
+kind_step : (x : ExprKind-F ExprKind Each Expr) (y : ExprKind-F Kinds Eaches Exprs) → without y ≡ x
+    → KindLaw (piece_of_kind (roll-ExprKind x))
+kind_step x y is =
+    subst KindLaw (sym (kind_at_roll x)) (subst (λ (z : ExprKind-F ExprKind Each Expr). LayerLaw (layer_of z)) is (layer_law y))
 
-each_step : (x : Each-F ExprKind Each Expr) (y : Each-F Kinds Eaches Exprs) → map-Each Kinds Eaches Exprs ExprKind Each Expr (λ e. e.0) (λ e. e.0) (λ e. e.0) y ≡ x → EachLaw (piece_of_each (roll-Each x))
+each_step : (x : Each-F ExprKind Each Expr) (y : Each-F Kinds Eaches Exprs)
+    → map-Each Kinds Eaches Exprs ExprKind Each Expr (λ e. e.0) (λ e. e.0) (λ e. e.0) y ≡ x
+    → EachLaw (piece_of_each (roll-Each x))
 each_step x y is =
     subst EachLaw (sym (each_at_roll x))
     (subst (λ (z : Each-F ExprKind Each Expr). EachLaw (piece_in_each (each_layer_of z))) is
@@ -572,12 +738,16 @@ each_step x y is =
 expr_law : (span : Span) (k : KindPiece) → KindLaw k → ExprLaw (piece_in_expr (record { span = span; kind = k }))
 expr_law span k law = λ name a v c need clean. law name span a v c clean.0
 
-expr_step : (x : Expr-F ExprKind Each Expr) (y : Expr-F Kinds Eaches Exprs) → map-Expr Kinds Eaches Exprs ExprKind Each Expr (λ e. e.0) (λ e. e.0) (λ e. e.0) y ≡ x → ExprLaw (piece_of (roll-Expr x))
+expr_step : (x : Expr-F ExprKind Each Expr) (y : Expr-F Kinds Eaches Exprs)
+    → map-Expr Kinds Eaches Exprs ExprKind Each Expr (λ e. e.0) (λ e. e.0) (λ e. e.0) y ≡ x → ExprLaw (piece_of (roll-Expr x))
 expr_step x y is =
     subst ExprLaw (sym (expr_at_roll x))
-    (subst (λ (z : Expr-F ExprKind Each Expr). ExprLaw (piece_in_expr (map-Expr ExprKind Each Expr KindPiece EachPiece Piece piece_of_kind piece_of_each piece_of z))) is
+    (subst (λ (z : Expr-F ExprKind Each Expr). ExprLaw
+    (piece_in_expr (map-Expr ExprKind Each Expr KindPiece EachPiece Piece piece_of_kind piece_of_each piece_of z))) is
     (expr_law y.span (piece_of_kind y.kind.0) y.kind.1))
 
 -- each expression without a fault of the static rules becomes what its shape says
 pub expression_law : (e : Expr) → ExprLaw (piece_of e)
-expression_law = ind-Expr (λ k. KindLaw (piece_of_kind k)) (λ q. EachLaw (piece_of_each q)) (λ e. ExprLaw (piece_of e)) kind_step each_step expr_step
+expression_law =
+    ind-Expr (λ k. KindLaw (piece_of_kind k)) (λ q. EachLaw (piece_of_each q))
+    (λ e. ExprLaw (piece_of e)) kind_step each_step expr_step

@@ -1,36 +1,14 @@
 -- Programs in which positions stand only where they are read: what an item reads once for all positions is a term, an expression
 -- that doesn't name the position.
-use Rattle.std.specs.Prelude.{◌≡◌, Bool, false, ◌||◌, if◌then◌else◌, Option, Some, None}
+use Rattle.std.specs.Prelude.{◌⊎◌, ℤ, if◌then◌else◌, Option, Some, None}
 use Rattle.std.specs.List.{AllByRecursion}
 use Rattle.pv_base.specs.declared.Name.{Name}
-use Rattle.pv_rules.specs.Lookup.{same_name}
 use Rattle.pv_meaning.specs.Core.{Program, Class, Member, Contract, Shared, Expression, Cut, Formula, Items, Item, Statement, Block}
 use Rattle.pv_meaning.specs.Core as core
 use Rattle.pv_meaning.specs.Repetitions.{Look, AtElements, AtElement, AtLength, AtTerm, looks_of}
+use Rattle.pv_meaning.specs.Steady.{IsTerm, Steady, NoElements, IsTermLook}
 
 -- Expressions
-
--- an expression names this variable
-abbrev pub mentions : Name → Expression → Bool
-mentions name (core.Constant v) = false
-mentions name core.This = false
-mentions name core.Result = false
-mentions name (core.Variable other) = same_name name other
-mentions name (core.Field e class field span) = mentions name e
-mentions name (core.Element type e i span) = mentions name e || mentions name i
-mentions name (core.Length type e span) = mentions name e
-mentions name (core.Not e) = mentions name e
-mentions name (core.Compute manner o x y span) = mentions name x || mentions name y
-mentions name (core.Compare c x y) = mentions name x || mentions name y
-mentions name (core.Equal same x y) = mentions name x || mentions name y
-mentions name (core.And x y) = mentions name x || mentions name y
-mentions name (core.Or x y) = mentions name x || mentions name y
-mentions name (core.Implies x y) = mentions name x || mentions name y
-mentions name (core.Old e) = mentions name e
-
--- a term for the position of this name
-abbrev pub IsTerm : Name → Expression → Type 0
-IsTerm name e = mentions name e ≡ false
 
 abbrev pub IsTermCut : Name → Cut → Type 0
 IsTermCut name (core.Below e) = IsTerm name e
@@ -39,12 +17,11 @@ IsTermCut name (core.Above e) = IsTerm name e
 IsTermCut name (core.From e) = IsTerm name e
 IsTermCut name (core.Provided e) = IsTerm name e
 
--- what a run looks at before it repeats a condition
-abbrev pub IsTermLook : Name → Look → Type 0
-IsTermLook name (AtElements type array shift) = IsTerm name array
-IsTermLook name (AtElement type array index) = IsTerm name array × IsTerm name index
-IsTermLook name (AtLength type array) = IsTerm name array
-IsTermLook name (AtTerm e) = IsTerm name e
+-- a condition that is repeated: what a run looks at before are terms, and the position stands only in shifted indexes, or nothing
+-- is read at it
+abbrev pub IsRepeated : Name → Expression → Type 0
+IsRepeated name e =
+    AllByRecursion (IsTermLook name) (looks_of name e) × (((s : ℤ) × Steady name s e) ⊎ NoElements (looks_of name e))
 
 -- Formulas
 
@@ -67,7 +44,7 @@ abbrev mutual
 
   pub ConfinedItem : Name → Item → Type 0
   ConfinedItem name (core.Elements type e shift units span) = IsTerm name e
-  ConfinedItem name (core.Repeated e span) = AllByRecursion (IsTermLook name) (looks_of name e)
+  ConfinedItem name (core.Repeated e span) = IsRepeated name e
   ConfinedItem name (core.Committed class e span) = IsTerm name e
   ConfinedItem name (core.Guarded cuts i span) = AllByRecursion (IsTermCut name) cuts × ConfinedItem name i
   ConfinedItem name (core.Fixed e f span) = IsTerm name e × ConfinedFormula f

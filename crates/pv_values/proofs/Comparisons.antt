@@ -94,29 +94,34 @@ pub elements_differ : (a b : List Value) → length a ≢ length b → same_elem
 elements_differ [] [] d = absurd (d refl)
 elements_differ [] (y ∷ ys) d = refl
 elements_differ (x ∷ xs) [] d = refl
-elements_differ (x ∷ xs) (y ∷ ys) d = rest_differ (same_value x y) (same_elements xs ys) (elements_differ xs ys (λ e. d (grind (arith, common_steps, e))))
+elements_differ (x ∷ xs) (y ∷ ys) d =
+    rest_differ (same_value x y) (same_elements xs ys) (elements_differ xs ys (λ e. d (grind (arith, common_steps, e))))
 
 elements_from : (a b : List Value) → length a ≡ length b → ((i : ℕ) → slice_get a i ≡ slice_get b i) → same_elements a b ≡ true
 elements_from [] [] l h = refl
 elements_from [] (y ∷ ys) l h = absurd (none-some y (h 0))
 elements_from (x ∷ xs) [] l h = absurd (none-some x (sym (h 0)))
 elements_from (x ∷ xs) (y ∷ ys) l h =
-    both (same_value x y) (same_elements xs ys) (rw (same_Some x y (h 0)) (value_itself y)) (elements_from xs ys (grind (arith, common_steps, l)) (λ i. h (suc i)))
+    both (same_value x y) (same_elements xs ys) (rw (same_Some x y (h 0)) (value_itself y))
+    (elements_from xs ys (grind (arith, common_steps, l)) (λ i. h (suc i)))
 
 agree_from : (names a b : Fields) → ((name : Name) → field_value a name ≡ field_value b name) → agree_on names a b ≡ true
 agree_from [] a b h = refl
 agree_from (f ∷ fs) a b h =
-    both (same_found (field_value a f.0) (field_value b f.0)) (agree_on fs a b) (found_from (field_value a f.0) (field_value b f.0) (h f.0)) (agree_from fs a b h)
+    both (same_found (field_value a f.0) (field_value b f.0)) (agree_on fs a b)
+    (found_from (field_value a f.0) (field_value b f.0) (h f.0)) (agree_from fs a b h)
 
 pub name_same : (a b : Name) → same_name a b ≡ true → a ≡ b
 name_same a b h = let e : a.0 ≡ b.0 = eqb-true a.0 b.0 h in ap (λ n. record { 0 = n }) e
 
 -- two lists of fields agree on each name that one list has
-agree_step : (t : Bool) (v w : Value) (rest : Option Value) (P : Type 0) → cond t (Some v) rest ≡ Some w → (t ≡ true → P) → (rest ≡ Some w → P) → P
+agree_step : (t : Bool) (v w : Value) (rest : Option Value) (P : Type 0) → cond t (Some v) rest ≡ Some w → (t ≡ true → P)
+    → (rest ≡ Some w → P) → P
 agree_step true v w rest P h p q = p refl
 agree_step false v w rest P h p q = q h
 
-agree_at : (names a b : Fields) (name : Name) (value : Value) → agree_on names a b ≡ true → field_value names name ≡ Some value → field_value a name ≡ field_value b name
+agree_at : (names a b : Fields) (name : Name) (value : Value) → agree_on names a b ≡ true → field_value names name ≡ Some value
+    → field_value a name ≡ field_value b name
 agree_at [] a b name value h e = absurd (none-some value e)
 agree_at (f ∷ fs) a b name value h e =
     let here = first_of_both (same_found (field_value a f.0) (field_value b f.0)) (agree_on fs a b) h in
@@ -125,7 +130,8 @@ agree_at (f ∷ fs) a b name value h e =
     (λ t. rw (name_same name f.0 t) (found_same (field_value a f.0) (field_value b f.0) here))
     (λ k. agree_at fs a b name value there k)
 
-either_has : (a b x y : Option Value) → a ≡ x → b ≡ y → ((v : Value) → a ≡ Some v → a ≡ b) → ((v : Value) → b ≡ Some v → a ≡ b) → a ≡ b
+either_has : (a b x y : Option Value) → a ≡ x → b ≡ y → ((v : Value) → a ≡ Some v → a ≡ b) → ((v : Value) → b ≡ Some v → a ≡ b)
+    → a ≡ b
 either_has a b None None p q f g = p ∙ sym q
 either_has a b (Some x) y p q f g = f x p
 either_has a b None (Some y) p q f g = g y q
@@ -166,7 +172,8 @@ thing_from (Object c x) (Object d y) h =
 thing_from (Object c x) (Array y) h = absurd (none-some c (sym h.classes))
 thing_from (Array x) (Object d y) h = absurd (none-some d h.classes)
 thing_from (Array x) (Array y) h =
-    elements_from x y (pos_same (length x) (length y) (same_Some (pos (length x)) (pos (length y)) h.lengths)) (λ i. h.elements (pos i))
+    elements_from x y (pos_same (length x) (length y) (same_Some (pos (length x)) (pos (length y)) h.lengths))
+    (λ i. h.elements (pos i))
 
 nothing_alike : AreAlike None None
 nothing_alike = record { classes = refl; lengths = refl; fields = λ name. refl; elements = λ index. refl }
@@ -195,7 +202,8 @@ things_from [] [] l h = refl
 things_from [] (y ∷ ys) l h = absurd (omega arith)
 things_from (x ∷ xs) [] l h = absurd (omega arith)
 things_from (x ∷ xs) (y ∷ ys) l h =
-    both (same_thing x y) (same_things xs ys) (thing_from x y (h 0)) (things_from xs ys (grind (arith, common_steps, l)) (λ i. h (suc i)))
+    both (same_thing x y) (same_things xs ys) (thing_from x y (h 0))
+    (things_from xs ys (grind (arith, common_steps, l)) (λ i. h (suc i)))
 
 number_alike : (a b : Things) (n : ℕ) → same_things a b ≡ true → AreAlike (thing_at a n) (thing_at b n)
 number_alike a b zero h = nothing_alike

@@ -44,7 +44,8 @@ pub record IsWithArray (value : Value) (size : ℕ) (array : ℕ) (old new : Thi
 
 -- an object with another value in one field
 pub record IsThingWithField (name : Name) (value : Value) (old new : Thing) : Type 0 where
-  pub fields : (other : Name) → field_in (Some new) other ≡ (if same_name other name then Some value else field_in (Some old) other)
+  pub fields : (other : Name) → field_in (Some new) other
+      ≡ (if same_name other name then Some value else field_in (Some old) other)
   pub elements : (index : ℤ) → element_in (Some new) index ≡ element_in (Some old) index
   pub class : class_in (Some new) ≡ class_in (Some old)
   pub length : length_in (Some new) ≡ length_in (Some old)
@@ -52,7 +53,8 @@ pub record IsThingWithField (name : Name) (value : Value) (old new : Thing) : Ty
 -- an array with another element
 pub record IsThingWithElement (index : ℤ) (value : Value) (old new : Thing) : Type 0 where
   pub fields : (name : Name) → field_in (Some new) name ≡ field_in (Some old) name
-  pub elements : (other : ℤ) → element_in (Some new) other ≡ (if same_number other index then Some value else element_in (Some old) other)
+  pub elements : (other : ℤ) → element_in (Some new) other
+      ≡ (if same_number other index then Some value else element_in (Some old) other)
   pub class : class_in (Some new) ≡ class_in (Some old)
   pub length : length_in (Some new) ≡ length_in (Some old)
 

@@ -1,5 +1,5 @@
--- Heaps as finite maps from locations to values. Objects and arrays are numbered together from 1, in the order of the list, and 0 is
--- null.
+-- Heaps as finite maps from locations to values. Objects and arrays are numbered together from 1, in the order of the list, and 0
+-- is null.
 use Rattle.std.specs.Prelude.{◌≡◌, ℕ, zero, suc, ℤ, pos, negsuc, Bool, false, ◌&&◌, nat_eq, int_le, Option, Some, None, List, [], ◌∷◌, length, slice_get, if◌then◌else◌}
 use Rattle.pv_base.specs.declared.Name.{Name}
 use Rattle.pv_values.specs.declared.value.Value.{Value}

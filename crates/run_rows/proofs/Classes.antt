@@ -23,7 +23,8 @@ ClassesFit p [] = Unit {0}
 ClassesFit p (c ∷ cs) = MembersFit p c.name (filter_map method_of c.members) × ClassesFit p cs
 
 -- what is found among the methods fits, and passes the test
-found : (p : Program) (class : Name) (test : Method → Bool) (ms : List Method) (m : Method) → MembersFit p class ms → first_that test ms ≡ Some m
+found : (p : Program) (class : Name) (test : Method → Bool) (ms : List Method) (m : Method) → MembersFit p class ms
+    → first_that test ms ≡ Some m
     → MemberFits p class m × (test m ≡ true)
 found p class test [] m h e = absurd (cc)
 found p class test (x ∷ xs) m h e = here (test x) refl (found p class test xs m h.1) e
@@ -39,8 +40,10 @@ at_class : (p : Program) (cs : List Class) (class : Name) → ClassesFit p cs
 at_class p [] class h = tt
 at_class p (c ∷ cs) class h = here (same_name c.name class) refl (at_class p cs class h.1)
   where
-    here : (b : Bool) → same_name c.name class ≡ b → MembersFit p class (filter_map method_of (members_of (first_that (λ c. same_name c.name class) cs)))
-        → MembersFit p class (filter_map method_of (members_of (if b then Some c else first_that (λ c. same_name c.name class) cs)))
+    here : (b : Bool) → same_name c.name class ≡ b
+        → MembersFit p class (filter_map method_of (members_of (first_that (λ c. same_name c.name class) cs)))
+        → MembersFit p class
+        (filter_map method_of (members_of (if b then Some c else first_that (λ c. same_name c.name class) cs)))
     here true t others = subst (λ (n : Name). MembersFit p n (filter_map method_of c.members)) (name_eq c.name class t) h.0
     here false t others = others
 

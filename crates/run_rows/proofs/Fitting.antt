@@ -11,11 +11,26 @@ use Rattle.run_rows.proofs.Classes.{by_classes}
 
 pub writers_fit : ProgramFits writers
 writers_fit = by_classes writers (
-  (record { fits = record { body = goes_first (assigns type.Int ((refl, refl), refl) refl) ends; result = λ t h. absurd (cc) }; run = λ h. refl }, tt),
+  (
+    record {
+      fits = record { body = goes_first (assigns type.Int ((refl, refl), refl) refl) ends; result = λ t h. absurd (cc) };
+      run = λ h. refl;
+    },
+    tt,
+  ),
   (
     tt,
     (
-      (record { fits = record { body = goes_first (acts refl) (goes_first (acts refl) ends); result = λ t h. absurd (cc) }; run = λ h. absurd (cc) }, tt),
+      (
+        record {
+          fits = record {
+            body = goes_first (acts refl (_, refl)) (goes_first (acts refl (_, refl)) ends);
+            result = λ t h. absurd (cc);
+          };
+          run = λ h. absurd (cc);
+        },
+        tt,
+      ),
       tt,
     ),
   ),
@@ -27,7 +42,8 @@ grow_fits = by_classes grow (
     record {
       fits = record {
         body = declares type.Int refl refl (declares type.Int refl refl (goes_first (loops (refl, refl, refl)
-            (goes_first (assigns type.Int refl (refl, refl, refl)) (goes_first (assigns type.Int refl (refl, refl, refl)) ends))) ends));
+            (goes_first (assigns type.Int refl (refl, refl, refl)) (goes_first (assigns type.Int refl (refl, refl, refl)) ends)))
+            ends));
         result = λ t h. absurd (cc);
       };
       run = λ h. absurd (cc);
@@ -42,7 +58,8 @@ twice_fits = by_classes twice (
   (
     record {
       fits = record {
-        body = goes_first (acts refl) (goes_first (assigns type.Int (refl, refl) refl) (goes_first (assigns type.Int (refl, refl) refl) (goes_first (acts refl) ends)));
+        body = goes_first (acts refl (_, refl)) (goes_first (assigns type.Int (refl, refl) refl)
+            (goes_first (assigns type.Int (refl, refl) refl) (goes_first (acts refl (_, refl)) ends)));
         result = λ t h. absurd (cc);
       };
       run = λ h. absurd (cc);
@@ -53,7 +70,8 @@ twice_fits = by_classes twice (
     (
       record {
         fits = record {
-          body = declares (type.Object (name 2)) refl refl (goes_first (acts refl) (goes_first (acts refl) (goes_first (acts refl) ends)));
+          body = declares (type.Object (name 2)) refl refl (goes_first (acts refl (_, refl))
+              (goes_first (acts refl (_, refl)) (goes_first (acts refl (_, refl)) ends)));
           result = λ t h. absurd (cc);
         };
         run = λ h. absurd (cc);
@@ -70,7 +88,8 @@ fill_fits = by_classes fill (
     record {
       fits = record {
         body = declares type.Int refl (refl, refl) (goes_first (loops (refl, (refl, refl), refl)
-            (goes_first (assigns type.Int ((refl, refl), refl, inl refl, refl) refl) (goes_first (assigns type.Int refl (refl, refl, refl)) ends))) ends);
+            (goes_first (assigns type.Int ((refl, refl), refl, inl refl, refl) refl)
+            (goes_first (assigns type.Int refl (refl, refl, refl)) ends))) ends);
         result = λ t h. absurd (cc);
       };
       run = λ h. refl;
@@ -82,9 +101,12 @@ fill_fits = by_classes fill (
       record {
         fits = record {
           body = declares worker refl refl (declares worker refl refl
-              (goes_first (assigns type.IntArray (refl, refl) refl) (goes_first (assigns type.Int (refl, refl) refl) (goes_first (assigns type.Int (refl, refl) refl)
-              (goes_first (assigns type.IntArray (refl, refl) refl) (goes_first (assigns type.Int (refl, refl) refl) (goes_first (assigns type.Int (refl, refl) refl)
-              (goes_first (acts refl) (goes_first (acts refl) (goes_first (acts refl) (goes_first (acts refl) ends)))))))))));
+              (goes_first (assigns type.IntArray (refl, refl) refl)
+              (goes_first (assigns type.Int (refl, refl) refl) (goes_first (assigns type.Int (refl, refl) refl)
+              (goes_first (assigns type.IntArray (refl, refl) refl)
+              (goes_first (assigns type.Int (refl, refl) refl) (goes_first (assigns type.Int (refl, refl) refl)
+              (goes_first (acts refl (_, refl)) (goes_first (acts refl (_, refl))
+              (goes_first (acts refl (_, refl)) (goes_first (acts refl (_, refl)) ends)))))))))));
           result = λ t h. absurd (cc);
         };
         run = λ h. absurd (cc);
@@ -104,9 +126,11 @@ copying_fits = by_classes copying (
     record {
       fits = record {
         body = goes_first (opens refl refl
-            (goes_first (assigns type.Int (refl, refl, inl refl, refl) (refl, refl, inl refl, refl)) (goes_first sends (goes_first receives
+            (goes_first (assigns type.Int (refl, refl, inl refl, refl) (refl, refl, inl refl, refl))
+            (goes_first sends (goes_first receives
             (goes_first (branches (refl, refl, refl)
-            (goes_first (assigns type.Int (refl, refl, inl refl, refl) (refl, (refl, refl, refl), inl refl, refl)) ends) ends) ends))))) ends;
+            (goes_first (assigns type.Int (refl, refl, inl refl, refl) (refl, (refl, refl, refl), inl refl, refl)) ends) ends)
+            ends))))) ends;
         result = λ t h. absurd (cc);
       };
       run = λ h. absurd (cc);

@@ -24,7 +24,14 @@ whole_number n = Number (pos n)
 
 -- what stands where no method is declared
 abbrev pub no_method : Method
-no_method = record { name = None; parameters = []; result = None; contract = record { before = true_formula; after = true_formula }; body = Stop; old = false }
+no_method = record {
+  name = None;
+  parameters = [];
+  result = None;
+  contract = record { before = true_formula; after = true_formula };
+  body = Stop;
+  old = false;
+}
 
 abbrev pub or_no_method : Option Method → Method
 or_no_method None = no_method
@@ -33,7 +40,13 @@ or_no_method (Some m) = m
 -- a method of an object, with arguments, in a heap
 abbrev pub starts : Program → List Thing → ℕ → ℕ → ℕ → List Value → Start
 starts p heap class object method arguments =
-    record { heap = heap; class = name class; object = object; method = or_no_method (method_named p (name class) (name method)); arguments = arguments }
+    record {
+      heap = heap;
+      class = name class;
+      object = object;
+      method = or_no_method (method_named p (name class) (name method));
+      arguments = arguments;
+    }
 
 abbrev pub from : Start → Ran
 from s = begin (first_world s)
@@ -42,7 +55,8 @@ from s = begin (first_world s)
 
 abbrev pub writers_start : Start
 writers_start = starts writers
-    (Object (name 1) ((name 3, whole_number 0) ∷ []) ∷ Object (name 0) ((name 2, Reference 1) ∷ []) ∷ Object (name 0) ((name 2, Reference 1) ∷ []) ∷ Object (name 4) [] ∷ [])
+    (Object (name 1) ((name 3, whole_number 0) ∷ []) ∷ Object (name 0) ((name 2, Reference 1) ∷ [])
+    ∷ Object (name 0) ((name 2, Reference 1) ∷ []) ∷ Object (name 4) [] ∷ [])
     4 4 5 (Reference 2 ∷ Reference 3 ∷ [])
 
 abbrev pub at_the_writes : Ran
@@ -54,18 +68,24 @@ WritersRace = (at_the_writes.steps ≡ 4) × Race writers at_the_writes.world
 -- Two workers fill the halves of an array.
 
 abbrev pub filled : Ran
-filled = rest fill Free 100 (from (starts fill (Object (name 6) [] ∷ Array (whole_number 0 ∷ whole_number 0 ∷ []) ∷ []) 6 1 9 (Reference 2 ∷ whole_number 1 ∷ whole_number 2 ∷ [])))
+filled = rest fill Free 100
+    (from (starts fill (Object (name 6) [] ∷ Array (whole_number 0 ∷ whole_number 0 ∷ []) ∷ []) 6 1 9
+    (Reference 2 ∷ whole_number 1 ∷ whole_number 2 ∷ [])))
 
 abbrev pub WorkersFill : Type 0
 WorkersFill = (filled.steps ≡ 29) × (all_ended filled.world ≡ true)
-    × (values_at filled.world (Cell 2 (pos 0) ∷ Cell 2 (pos 1) ∷ Field 3 (name 1) ∷ Field 3 (name 2) ∷ Field 3 (name 3) ∷ Field 4 (name 1) ∷ Field 4 (name 2) ∷ Field 4 (name 3) ∷ [])
-    ≡ map Some (whole_number 1 ∷ whole_number 1 ∷ Reference 2 ∷ whole_number 0 ∷ whole_number 1 ∷ Reference 2 ∷ whole_number 1 ∷ whole_number 2 ∷ []))
+    × (values_at filled.world
+    (Cell 2 (pos 0) ∷ Cell 2 (pos 1) ∷ Field 3 (name 1) ∷ Field 3 (name 2) ∷ Field 3 (name 3) ∷ Field 4 (name 1)
+    ∷ Field 4 (name 2) ∷ Field 4 (name 3) ∷ [])
+    ≡ map Some (whole_number 1 ∷ whole_number 1 ∷ Reference 2 ∷ whole_number 0 ∷ whole_number 1 ∷ Reference 2 ∷ whole_number 1
+    ∷ whole_number 2 ∷ []))
 
 -- Members of a counted loop send to the next one.
 
 abbrev pub copying_start : Start
 copying_start = starts copying
-    (Object (name 0) [] ∷ Array (whole_number 0 ∷ whole_number 0 ∷ []) ∷ Array (whole_number 5 ∷ whole_number 6 ∷ []) ∷ Array (whole_number 0 ∷ whole_number 0 ∷ []) ∷ [])
+    (Object (name 0) [] ∷ Array (whole_number 0 ∷ whole_number 0 ∷ []) ∷ Array (whole_number 5 ∷ whole_number 6 ∷ [])
+    ∷ Array (whole_number 0 ∷ whole_number 0 ∷ []) ∷ [])
     0 1 6 (Reference 2 ∷ Reference 3 ∷ Reference 4 ∷ whole_number 2 ∷ [])
 
 -- the second member steps three times before all others
@@ -73,14 +93,18 @@ abbrev pub copied : Mode → Ran
 copied mode = rest copying mode 100 (go copying mode 2 3 (go copying mode 0 1 (from copying_start)))
 
 abbrev pub arrays_at : World → List (Option Value)
-arrays_at w = values_at w (Cell 2 (pos 0) ∷ Cell 2 (pos 1) ∷ Cell 3 (pos 0) ∷ Cell 3 (pos 1) ∷ Cell 4 (pos 0) ∷ Cell 4 (pos 1) ∷ [])
+arrays_at w = values_at w
+    (Cell 2 (pos 0) ∷ Cell 2 (pos 1) ∷ Cell 3 (pos 0) ∷ Cell 3 (pos 1) ∷ Cell 4 (pos 0) ∷ Cell 4 (pos 1) ∷ [])
 
 abbrev pub copied_arrays : List (Option Value)
-copied_arrays = map Some (whole_number 5 ∷ whole_number 6 ∷ whole_number 5 ∷ whole_number 6 ∷ whole_number 0 ∷ whole_number 5 ∷ [])
+copied_arrays = map Some
+    (whole_number 5 ∷ whole_number 6 ∷ whole_number 5 ∷ whole_number 6 ∷ whole_number 0 ∷ whole_number 5 ∷ [])
 
 -- the loop alone, its members in the order of a list
 abbrev pub loop_run : Mode → List ℕ → World
-loop_run mode order = run_events copying (map (event mode) order) (world_after (first_world copying_start) (act copying (first_world copying_start) mode 0))
+loop_run mode order =
+    run_events copying (map (event mode) order)
+    (world_after (first_world copying_start) (act copying (first_world copying_start) mode 0))
 
 abbrev pub free_order : List ℕ
 free_order = 2 ∷ 2 ∷ 2 ∷ 1 ∷ 1 ∷ 1 ∷ 1 ∷ 1 ∷ 2 ∷ 2 ∷ 2 ∷ 2 ∷ []
@@ -95,11 +119,13 @@ abbrev pub in_order : World
 in_order = loop_run Ordered ordered_order
 
 abbrev pub MembersCopy : Type 0
-MembersCopy = ((copied Free).steps ≡ 15) × (all_ended (copied Free).world ≡ true) × (arrays_at (copied Free).world ≡ copied_arrays)
+MembersCopy =
+    ((copied Free).steps ≡ 15) × (all_ended (copied Free).world ≡ true) × (arrays_at (copied Free).world ≡ copied_arrays)
 
 abbrev pub LoopsEndAlike : Type 0
 LoopsEndAlike = StandsAtLoop (first_world copying_start) 0 × IsLoopRun copying (first_world copying_start) 0 Free freely
-    × IsLoopRun copying (first_world copying_start) 0 Ordered in_order × (arrays_at freely ≡ copied_arrays) × (arrays_at in_order ≡ copied_arrays)
+    × IsLoopRun copying (first_world copying_start) 0 Ordered in_order × (arrays_at freely ≡ copied_arrays)
+    × (arrays_at in_order ≡ copied_arrays)
 
 -- A lock that is taken twice: after three steps nobody may step.
 
@@ -107,7 +133,8 @@ abbrev pub locked_twice : Ran
 locked_twice = rest twice Free 100 (from (starts twice (Object (name 4) [] ∷ []) 4 1 5 []))
 
 abbrev pub LocksOnce : Type 0
-LocksOnce = (locked_twice.steps ≡ 3) × (act twice locked_twice.world Free 0 ≡ Result.Waits) × (first_able twice locked_twice.world ≡ None)
+LocksOnce = (locked_twice.steps ≡ 3) × (act twice locked_twice.world Free 0 ≡ Result.Waits)
+    × (first_able twice locked_twice.world ≡ None)
     × (values_at locked_twice.world (Field 2 (name 0) ∷ Field 2 (name 1) ∷ []) ≡ map Some (whole_number 0 ∷ whole_number 0 ∷ []))
 
 -- A number that doubles in each turn of a loop.
@@ -116,4 +143,5 @@ abbrev pub grown : ℕ → Ran
 grown n = go grow Free 0 n (from (starts grow (Object (name 0) [] ∷ []) 0 1 1 []))
 
 abbrev pub GrowsOn : Type 0
-GrowsOn = (variable_of (grown 126).world (name 2) ≡ Some (whole_number (2 ^ 126))) × (variable_of (grown 127).world (name 2) ≡ Some (whole_number (2 ^ 127)))
+GrowsOn = (variable_of (grown 126).world (name 2) ≡ Some (whole_number (2 ^ 126)))
+    × (variable_of (grown 127).world (name 2) ≡ Some (whole_number (2 ^ 127)))

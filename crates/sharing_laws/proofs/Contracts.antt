@@ -1,4 +1,4 @@
--- Contracts without a fault say the same in both forms.
+-- Contracts without a fault are made alike in both forms.
 use Rattle.std.proofs.Common.{◌≡◌, Bool, true, false, Option, Some, None, is_some, List, [], ◌∷◌, map, cond, refl, sym, ◌∙◌, ap, subst}
 use Rattle.std.proofs.lemmas.Bool.{eq-eqb}
 use Rattle.std.specs.Prelude.{filter, nat_eq, if◌then◌else◌}
@@ -25,14 +25,15 @@ use Rattle.pv_picks.specs.Statements.{formulas_at, core_of_formulas, core_of_all
 use Rattle.pv_picks.proofs.Clean.{Clean}
 use Rattle.pv_picks.proofs.Agreeing.{or_else, with_name, declared_new, declared_more}
 use Rattle.pv_picks.proofs.Confining.{no_first, no_second}
-use Rattle.sharing_laws.specs.Sharing.{ItemsAgree, SharedAgrees}
+use Rattle.sharing_laws.specs.Forms.{SameItems.same_nothing}
+use Rattle.sharing_laws.proofs.Making.{AreMade, SharedIsMade, made_together}
 use Rattle.sharing_laws.proofs.Shapes.{type_of, IsPosition}
-use Rattle.sharing_laws.proofs.Parts.{together_agrees}
-use Rattle.sharing_laws.proofs.Both.{clause_agrees}
+use Rattle.sharing_laws.proofs.Both.{clause_same}
 
 -- Positions in scope
 
-choice_position : (b : Bool) (v w : Visible) (position : Name) → IsPosition v position → IsPosition w position → IsPosition (if b then v else w) position
+choice_position : (b : Bool) (v w : Visible) (position : Name) → IsPosition v position → IsPosition w position
+    → IsPosition (if b then v else w) position
 choice_position true v w position h k = h
 choice_position false v w position h k = k
 
@@ -41,65 +42,81 @@ still_number None x h = absurd cc
 still_number (Some d) x h = h
 
 -- a name in scope keeps its meaning
-pub still_position : (v : Visible) (how : Declaration) (name position : Name) (type : PvType) → IsPosition v position → IsPosition (declare_variable how v name type) position
+pub still_position : (v : Visible) (how : Declaration) (name position : Name) (type : PvType) → IsPosition v position
+    → IsPosition (declare_variable how v name type) position
 still_position v how name position type h =
     let d : Declared = record { declaration = how; kind = type } in
     choice_position (is_visible v name) v (with_name v (name.0, d)) position h
-    (ap (λ o. type_of (as_variable o)) (declared_more v.names (name.0, d) position) ∙ still_number (declared_as v.names position) (declared_as ((name.0, d) ∷ []) position) h)
+    (ap (λ o. type_of (as_variable o)) (declared_more v.names (name.0, d) position)
+    ∙ still_number (declared_as v.names position) (declared_as ((name.0, d) ∷ []) position) h)
 
-new_number : (o : Option Declared) (b : Bool) → is_some o ≡ false → b ≡ true → type_of (as_variable (or_else o (if b then Some (record { declaration = LoopVariable; kind = Int }) else None))) ≡ Some Int
+new_number : (o : Option Declared) (b : Bool) → is_some o ≡ false → b ≡ true
+    → type_of (as_variable (or_else o (if b then Some (record { declaration = LoopVariable; kind = Int }) else None))) ≡ Some Int
 new_number None true h k = refl
 new_number None false h k = absurd cc
 new_number (Some d) b h k = absurd cc
 
 -- the variable of a par block or counted loop is a number in its body
-pub loop_position : (v : Visible) (name : Name) → is_visible v name ≡ false → IsPosition (declare_variable LoopVariable v name Int) name
+pub loop_position : (v : Visible) (name : Name) → is_visible v name ≡ false
+    → IsPosition (declare_variable LoopVariable v name Int) name
 loop_position v name new =
     let d : Declared = record { declaration = LoopVariable; kind = Int } in
     subst (λ (w : Visible). IsPosition w name) (sym (declared_new v name d new))
-    (ap (λ o. type_of (as_variable o)) (declared_more v.names (name.0, d) name) ∙ new_number (declared_as v.names name) (nat_eq name.0 name.0) new (eq-eqb name.0 name.0 refl))
+    (ap (λ o. type_of (as_variable o)) (declared_more v.names (name.0, d) name)
+    ∙ new_number (declared_as v.names name) (nat_eq name.0 name.0) new (eq-eqb name.0 name.0 refl))
 
 -- Clauses one behind the other
 
-abbrev ClauseAgrees : Name → Around → Visible → Clause → Type 0
-ClauseAgrees name a v c = ItemsAgree name (core_of_formula a v c.formula) (core_of_items name a v c.formula)
+abbrev ClauseSame : Name → Around → Visible → Clause → Type 0
+ClauseSame name a v c = AreMade name (core_of_formula a v c.formula) (core_of_items name a v c.formula)
 
 together_none : (is : Items) → together is core.NoItems ≡ is
 together_none core.NoItems = refl
 together_none (core.Join i is) = ap (core.Join i) (together_none is)
 
-clauses_agree : (name : Name) (a : Around) (v : Visible) (cs : List Clause) → AllByRecursion (ClauseAgrees name a v) cs
-    → ItemsAgree name (core_of_formulas a v (map (λ clause. clause.formula) cs)) (core_of_all_items name a v (map (λ clause. clause.formula) cs))
-clauses_agree name a v [] h = λ sight scene position here. (refl, λ spot. refl)
-clauses_agree name a v (c ∷ []) h =
-    subst (λ (is : Items). ItemsAgree name (core_of_formula a v c.formula) is) (sym (together_none (core_of_items name a v c.formula))) h.0
-clauses_agree name a v (c ∷ d ∷ cs) h =
-    together_agrees name (core_of_formula a v c.formula) (core_of_formulas a v (map (λ clause. clause.formula) (d ∷ cs))) (core_of_items name a v c.formula) (core_of_all_items name a v (map (λ clause. clause.formula) (d ∷ cs)))
-    h.0 (clauses_agree name a v (d ∷ cs) h.1)
+clauses_same : (name : Name) (a : Around) (v : Visible) (cs : List Clause) → AllByRecursion (ClauseSame name a v) cs
+    → AreMade name (core_of_formulas a v (map (λ clause. clause.formula) cs))
+    (core_of_all_items name a v (map (λ clause. clause.formula) cs))
+clauses_same name a v [] h = (same_nothing, tt)
+clauses_same name a v (c ∷ []) h =
+    subst (λ (is : Items). AreMade name (core_of_formula a v c.formula) is)
+    (sym (together_none (core_of_items name a v c.formula))) h.0
+clauses_same name a v (c ∷ d ∷ cs) h =
+    made_together name _ _ _ _ h.0 (clauses_same name a v (d ∷ cs) h.1)
 
-filtered : {A : Type 0} (P : A → Type 0) (b : Bool) (x : A) (xs : List A) → P x → AllByRecursion P xs → AllByRecursion P (cond b (x ∷ xs) xs)
+filtered : {A : Type 0} (P : A → Type 0) (b : Bool) (x : A) (xs : List A) → P x → AllByRecursion P xs
+    → AllByRecursion P (cond b (x ∷ xs) xs)
 filtered P true x xs h k = (h, k)
 filtered P false x xs h k = k
 
-filter_all : {A : Type 0} (P : A → Type 0) (stands : A → Bool) (xs : List A) → AllByRecursion P xs → AllByRecursion P (filter stands xs)
+filter_all : {A : Type 0} (P : A → Type 0) (stands : A → Bool) (xs : List A) → AllByRecursion P xs
+    → AllByRecursion P (filter stands xs)
 filter_all P stands [] h = tt
 filter_all P stands (x ∷ xs) h = filtered P (stands x) x (filter stands xs) h.0 (filter_all P stands xs h.1)
 
-clauses_at : (name : Name) (a : Around) (v : Visible) (stands : ClauseKind → Bool) (cs : List Clause) → AllByRecursion (ClauseAgrees name a v) cs
-    → ItemsAgree name (core_of_formulas a v (formulas_at stands cs)) (core_of_all_items name a v (formulas_at stands cs))
-clauses_at name a v stands cs h = clauses_agree name a v (filter (λ clause. stands clause.kind) cs) (filter_all (ClauseAgrees name a v) (λ clause. stands clause.kind) cs h)
+clauses_at : (name : Name) (a : Around) (v : Visible) (stands : ClauseKind → Bool) (cs : List Clause)
+    → AllByRecursion (ClauseSame name a v) cs
+    → AreMade name (core_of_formulas a v (formulas_at stands cs)) (core_of_all_items name a v (formulas_at stands cs))
+clauses_at name a v stands cs h =
+    clauses_same name a v (filter (λ clause. stands clause.kind) cs)
+    (filter_all (ClauseSame name a v) (λ clause. stands clause.kind) cs h)
 
-each_clause : (name : Name) (a : Around) (v : Visible) (ensures others : Context) (cs : List Clause) → IsPosition v name → Clean (rules.faults_of_clauses a v ensures others cs) → faults_of_item_contract name.0 (record { clauses = cs }) ≡ []
-    → AllByRecursion (ClauseAgrees name a v) cs
+each_clause : (name : Name) (a : Around) (v : Visible) (ensures others : Context) (cs : List Clause) → IsPosition v name
+    → Clean (rules.faults_of_clauses a v ensures others cs) → faults_of_item_contract name.0 (record { clauses = cs }) ≡ []
+    → AllByRecursion (ClauseSame name a v) cs
 each_clause name a v ensures others [] p clean none = tt
 each_clause name a v ensures others (c ∷ cs) p clean none =
     let first : List ShapeFault = faults_of_items name.0 c.formula in
-    let rest : List ShapeFault = faults_of_item_contract name.0 (record { clauses = cs }) in
-    (clause_agrees c.formula name a v _ p clean.0 (no_first first rest none), each_clause name a v ensures others cs p clean.1 (no_second first rest none))
+    let rest : List ShapeFault = faults_of_item_contract name.0 (record { clauses = cs }) in (
+      clause_same c.formula name a v _ p clean.0 (no_first first rest none),
+      each_clause name a v ensures others cs p clean.1
+          (no_second first rest none),
+    )
 
 -- a contract that members keep, at the position of this name
-pub shared_agrees : (name : Name) (c : Contract) (a : Around) (v : Visible) (ensures others : Context) → IsPosition v name → Clean (rules.faults_of_clauses a v ensures others c.clauses) → faults_of_item_contract name.0 c ≡ []
-    → SharedAgrees name (core_of_shared name a v c)
-shared_agrees name c a v ensures others p clean none =
+pub shared_same : (name : Name) (c : Contract) (a : Around) (v : Visible) (ensures others : Context) → IsPosition v name
+    → Clean (rules.faults_of_clauses a v ensures others c.clauses) → faults_of_item_contract name.0 c ≡ []
+    → SharedIsMade name (core_of_shared name a v c)
+shared_same name c a v ensures others p clean none =
     let all = each_clause name a v ensures others c.clauses p clean none in
     (clauses_at name a v _ c.clauses all, clauses_at name a v _ c.clauses all)

@@ -1,20 +1,19 @@
--- Evaluation over readers of heaps: what is done next counts only by its values, and guards let through where their condition is true.
-use Rattle.std.proofs.Common.{◌≡◌, ℤ, pos, ◌+ℤ◌, ◌-ℤ◌, Bool, true, false, Option, Some, None, List, [], ◌∷◌, ◌++◌, refl, sym, ◌∙◌, ap}
-use Rattle.std.proofs.Math.IntN.{neg_ℤ, +ℤ_idl, +ℤ_idr}
+-- Evaluation over readers of heaps: what is done next counts only by its values, and guards let through where their condition is
+-- true.
+use Rattle.std.proofs.Common.{◌≡◌, ℤ, Bool, true, false, Option, Some, None, List, [], ◌∷◌, ◌++◌, refl, sym, ◌∙◌, ap}
 use Rattle.std.proofs.lemmas.Bool.{eqb-true}
 use Rattle.std.specs.Prelude.{if◌then◌else◌}
 use Rattle.pv_base.specs.declared.Name.{Name}
-use Rattle.pv_base.specs.declared.Span.{Span}
 use Rattle.pv_values.specs.declared.value.Value.{Value}
 use Rattle.pv_values.specs.declared.value.Value.TheVariants as value
 use Rattle.pv_values.specs.declared.value.Location.TheVariants as location
 use Rattle.pv_meaning.specs.Core.{Expression, Cut}
 use Rattle.pv_meaning.specs.Core as core
 use Rattle.pv_meaning.specs.Heaps.{Heap}
-use Rattle.pv_meaning.specs.Values.{number_in, truth_in, reference_in, arithmetic, comparison, equality}
+use Rattle.pv_meaning.specs.Values.{number_in, truth_in, reference_in, comparison, equality}
 use Rattle.pv_meaning.specs.Evaluation.{Scene, evaluate}
-use Rattle.pv_meaning.specs.Meeting.{or_stop, heap_reader, Sight, value_or, passes, term_of, behind}
-use Rattle.pv_picks.specs.Operations.{is_position, cut_before, cut_behind, cuts_of, number}
+use Rattle.pv_meaning.specs.Meeting.{or_stop, heap_reader, Sight, value_or, passes, guard_term, behind}
+use Rattle.pv_picks.specs.Operations.{is_position, cut_before, cut_behind, cuts_of}
 
 module _ {R : Type 0} where
   or_same : {A : Type 0} (o : Option A) (stop : R) (f g : A → R) → ((x : A) → f x ≡ g x) → or_stop o stop f ≡ or_stop o stop g
@@ -27,7 +26,8 @@ module _ {R : Type 0} where
 
   -- what is done next may be replaced where it says the same of each value
   pub evaluate_same : (stop : R) (now old : Heap) (scene : Scene) (e : Expression) (f g : Value → R) → ((v : Value) → f v ≡ g v)
-      → evaluate (heap_reader stop now) (heap_reader stop old) scene e f ≡ evaluate (heap_reader stop now) (heap_reader stop old) scene e g
+      → evaluate (heap_reader stop now) (heap_reader stop old) scene e f
+      ≡ evaluate (heap_reader stop now) (heap_reader stop old) scene e g
   evaluate_same stop now old scene (core.Constant v) f g same = same v
   evaluate_same stop now old scene core.This f g same = same (value.Reference scene.this)
   evaluate_same stop now old scene core.Result f g same = same scene.result
@@ -35,7 +35,9 @@ module _ {R : Type 0} where
   evaluate_same stop now old scene (core.Field e class field span) f g same =
       evaluate_same stop now old scene e _ _ (λ o. or_same (now.value (location.Field (reference_in o) field)) stop f g same)
   evaluate_same stop now old scene (core.Element type x i span) f g same =
-      evaluate_same stop now old scene x _ _ (λ a. evaluate_same stop now old scene i _ _ (λ n. or_same (now.value (location.Cell (reference_in a) (number_in n))) stop f g same))
+      evaluate_same stop now old scene x _ _
+      (λ a. evaluate_same stop now old scene i _ _
+      (λ n. or_same (now.value (location.Cell (reference_in a) (number_in n))) stop f g same))
   evaluate_same stop now old scene (core.Length type x span) f g same =
       evaluate_same stop now old scene x _ _ (λ a. or_same (now.length (reference_in a)) stop _ _ (λ n. same (value.Number n)))
   evaluate_same stop now old scene (core.Not e) f g same = evaluate_same stop now old scene e _ _ (λ v. same _)
@@ -46,11 +48,14 @@ module _ {R : Type 0} where
   evaluate_same stop now old scene (core.Equal b x y) f g same =
       evaluate_same stop now old scene x _ _ (λ a. evaluate_same stop now old scene y _ _ (λ b. same _))
   evaluate_same stop now old scene (core.And x y) f g same =
-      evaluate_same stop now old scene x _ _ (λ a. choice_same (truth_in a) _ _ _ _ (evaluate_same stop now old scene y f g same) (same _))
+      evaluate_same stop now old scene x _ _
+      (λ a. choice_same (truth_in a) _ _ _ _ (evaluate_same stop now old scene y f g same) (same _))
   evaluate_same stop now old scene (core.Or x y) f g same =
-      evaluate_same stop now old scene x _ _ (λ a. choice_same (truth_in a) _ _ _ _ (same _) (evaluate_same stop now old scene y f g same))
+      evaluate_same stop now old scene x _ _
+      (λ a. choice_same (truth_in a) _ _ _ _ (same _) (evaluate_same stop now old scene y f g same))
   evaluate_same stop now old scene (core.Implies x y) f g same =
-      evaluate_same stop now old scene x _ _ (λ a. choice_same (truth_in a) _ _ _ _ (evaluate_same stop now old scene y f g same) (same _))
+      evaluate_same stop now old scene x _ _
+      (λ a. choice_same (truth_in a) _ _ _ _ (evaluate_same stop now old scene y f g same) (same _))
   evaluate_same stop now old scene (core.Old e) f g same = evaluate_same stop old old scene e f g same
 
   or_stops : {A : Type 0} (o : Option A) (stop : R) (f : A → R) → ((x : A) → f x ≡ stop) → or_stop o stop f ≡ stop
@@ -71,7 +76,9 @@ module _ {R : Type 0} where
   evaluate_stops stop now old scene (core.Field e class field span) f all =
       evaluate_stops stop now old scene e _ (λ o. or_stops (now.value (location.Field (reference_in o) field)) stop f all)
   evaluate_stops stop now old scene (core.Element type x i span) f all =
-      evaluate_stops stop now old scene x _ (λ a. evaluate_stops stop now old scene i _ (λ n. or_stops (now.value (location.Cell (reference_in a) (number_in n))) stop f all))
+      evaluate_stops stop now old scene x _
+      (λ a. evaluate_stops stop now old scene i _
+      (λ n. or_stops (now.value (location.Cell (reference_in a) (number_in n))) stop f all))
   evaluate_stops stop now old scene (core.Length type x span) f all =
       evaluate_stops stop now old scene x _ (λ a. or_stops (now.length (reference_in a)) stop _ (λ n. all (value.Number n)))
   evaluate_stops stop now old scene (core.Not e) f all = evaluate_stops stop now old scene e _ (λ v. all _)
@@ -82,20 +89,26 @@ module _ {R : Type 0} where
   evaluate_stops stop now old scene (core.Equal b x y) f all =
       evaluate_stops stop now old scene x _ (λ a. evaluate_stops stop now old scene y _ (λ b. all _))
   evaluate_stops stop now old scene (core.And x y) f all =
-      evaluate_stops stop now old scene x _ (λ a. choice_stops (truth_in a) _ _ stop (evaluate_stops stop now old scene y f all) (all _))
+      evaluate_stops stop now old scene x _
+      (λ a. choice_stops (truth_in a) _ _ stop (evaluate_stops stop now old scene y f all) (all _))
   evaluate_stops stop now old scene (core.Or x y) f all =
-      evaluate_stops stop now old scene x _ (λ a. choice_stops (truth_in a) _ _ stop (all _) (evaluate_stops stop now old scene y f all))
+      evaluate_stops stop now old scene x _
+      (λ a. choice_stops (truth_in a) _ _ stop (all _) (evaluate_stops stop now old scene y f all))
   evaluate_stops stop now old scene (core.Implies x y) f all =
-      evaluate_stops stop now old scene x _ (λ a. choice_stops (truth_in a) _ _ stop (evaluate_stops stop now old scene y f all) (all _))
+      evaluate_stops stop now old scene x _
+      (λ a. choice_stops (truth_in a) _ _ stop (evaluate_stops stop now old scene y f all) (all _))
   evaluate_stops stop now old scene (core.Old e) f all = evaluate_stops stop old old scene e f all
 
 -- In a scene where the name stands for a position.
-module _ {R : Type 0} (stop : R) (sight : Sight) (scene : Scene) (name : Name) (position : ℤ) (here : scene.variables name.0 ≡ value.Number position) where
-  pub value_same : (e : Expression) (f g : Value → R) → ((v : Value) → f v ≡ g v) → value_or stop sight scene e f ≡ value_or stop sight scene e g
+module _ {R : Type 0} (stop : R) (sight : Sight) (scene : Scene) (name : Name) (position : ℤ)
+    (here : scene.variables name.0 ≡ value.Number position) where
+  pub value_same : (e : Expression) (f g : Value → R) → ((v : Value) → f v ≡ g v)
+      → value_or stop sight scene e f ≡ value_or stop sight scene e g
   value_same e f g same = evaluate_same stop sight.now sight.old scene e f g same
 
   -- the name is read as the position
-  position_read : (e : Expression) → is_position name e ≡ true → (f : Value → R) → value_or stop sight scene e f ≡ f (value.Number position)
+  position_read : (e : Expression) → is_position name e ≡ true → (f : Value → R)
+      → value_or stop sight scene e f ≡ f (value.Number position)
   position_read (core.Variable other) is f =
       let same : name.0 ≡ other.0 = eqb-true name.0 other.0 is in
       ap (λ n. f (scene.variables n)) (sym same) ∙ ap f here
@@ -116,38 +129,48 @@ module _ {R : Type 0} (stop : R) (sight : Sight) (scene : Scene) (name : Name) (
 
   -- Guards
 
-  behind_append : (outside rest : R) (cs ds : List Cut) → behind stop outside sight scene (cs ++ ds) position rest ≡ behind stop outside sight scene cs position (behind stop outside sight scene ds position rest)
+  behind_append : (outside rest : R) (cs ds : List Cut)
+      → behind stop outside sight scene (cs ++ ds) position rest
+      ≡ behind stop outside sight scene cs position (behind stop outside sight scene ds position rest)
   behind_append outside rest [] ds = refl
   behind_append outside rest (c ∷ cs) ds =
-      value_same (term_of c) _ _ (λ v. choice_same (passes c position v) _ _ _ _ (behind_append outside rest cs ds) refl)
+      value_same (guard_term c) _ _ (λ v. choice_same (passes c position v) _ _ _ _ (behind_append outside rest cs ds) refl)
 
   before_met : (c : core.Comparison) (y : Expression) (outside rest : R)
-      → behind stop outside sight scene (cut_before c y ∷ []) position rest ≡ value_or stop sight scene y (λ v. if comparison c position (number_in v) then rest else outside)
+      → behind stop outside sight scene (cut_before c y ∷ []) position rest
+      ≡ value_or stop sight scene y (λ v. if comparison c position (number_in v) then rest else outside)
   before_met core.Less y outside rest = refl
   before_met core.AtMost y outside rest = refl
   before_met core.Greater y outside rest = refl
   before_met core.AtLeast y outside rest = refl
 
   behind_met : (c : core.Comparison) (x : Expression) (outside rest : R)
-      → behind stop outside sight scene (cut_behind c x ∷ []) position rest ≡ value_or stop sight scene x (λ v. if comparison c (number_in v) position then rest else outside)
+      → behind stop outside sight scene (cut_behind c x ∷ []) position rest
+      ≡ value_or stop sight scene x (λ v. if comparison c (number_in v) position then rest else outside)
   behind_met core.Less x outside rest = refl
   behind_met core.AtMost x outside rest = refl
   behind_met core.Greater x outside rest = refl
   behind_met core.AtLeast x outside rest = refl
 
-  cut_met : (a b : Bool) (c : core.Comparison) (x y : Expression) (outside rest : R) → is_position name x ≡ a → is_position name y ≡ b
-      → behind stop outside sight scene ((if a then cut_before c y else (if b then cut_behind c x else core.Provided (core.Compare c x y))) ∷ []) position rest
+  cut_met : (a b : Bool) (c : core.Comparison) (x y : Expression) (outside rest : R) → is_position name x ≡ a
+      → is_position name y ≡ b
+      → behind stop outside sight scene
+      ((if a then cut_before c y else (if b then cut_behind c x else core.Provided (core.Compare c x y))) ∷ []) position rest
       ≡ value_or stop sight scene (core.Compare c x y) (λ v. if truth_in v then rest else outside)
   cut_met true b c x y outside rest is_x is_y =
       before_met c y outside rest
-      ∙ sym (position_read x is_x (λ u. value_or stop sight scene y (λ v. if comparison c (number_in u) (number_in v) then rest else outside)))
+      ∙ sym (position_read x is_x
+      (λ u. value_or stop sight scene y (λ v. if comparison c (number_in u) (number_in v) then rest else outside)))
   cut_met false true c x y outside rest is_x is_y =
       behind_met c x outside rest
-      ∙ value_same x _ _ (λ u. sym (position_read y is_y (λ v. if comparison c (number_in u) (number_in v) then rest else outside)))
+      ∙ value_same x _ _ (λ u.
+      sym (position_read y is_y (λ v. if comparison c (number_in u) (number_in v) then rest else outside)))
   cut_met false false c x y outside rest is_x is_y = refl
 
   -- guards let the rest through where their condition is true
-  pub guards_met : (e : Expression) (outside rest : R) → behind stop outside sight scene (cuts_of name e) position rest ≡ value_or stop sight scene e (λ v. if truth_in v then rest else outside)
+  pub guards_met : (e : Expression) (outside rest : R)
+      → behind stop outside sight scene (cuts_of name e) position rest
+      ≡ value_or stop sight scene e (λ v. if truth_in v then rest else outside)
   guards_met (core.And x y) outside rest =
       behind_append outside rest (cuts_of name x) (cuts_of name y)
       ∙ guards_met x outside (behind stop outside sight scene (cuts_of name y) position rest)
@@ -172,22 +195,3 @@ module _ {R : Type 0} (stop : R) (sight : Sight) (scene : Scene) (name : Name) (
       → value_or stop sight scene (core.Equal true (core.Variable name) y) (λ v. if truth_in v then rest else outside)
       ≡ value_or stop sight scene y (λ v. if equality true (value.Number position) v then rest else outside)
   equality_met y outside rest = ap (λ u. value_or stop sight scene y (λ v. if equality true u v then rest else outside)) here
-
-  -- Indexes
-
-  abbrev pub Reads : ℤ → Expression → Type 0
-  Reads s e = (next : Value → R) → value_or stop sight scene e next ≡ next (value.Number (position +ℤ s))
-
-  pub operation_read : (m : core.Manner) (o : core.Operation) (n s : ℤ) (span : Span) → arithmetic o position n ≡ position +ℤ s → Reads s (core.Compute m o (core.Variable name) (number n) span)
-  operation_read m o n s span same next = ap (λ u. next (value.Number (arithmetic o (number_in u) n))) here ∙ ap (λ z. next (value.Number z)) same
-
-  pub variable_read : position ≡ position +ℤ pos 0 → Reads (pos 0) (core.Variable name)
-  variable_read same next = ap next here ∙ ap (λ z. next (value.Number z)) same
-
--- Whole numbers
-
-pub no_shift : (a : ℤ) → a ≡ a +ℤ pos 0
-no_shift a = sym (+ℤ_idr a)
-
-pub lowered_shift : (a b : ℤ) → a -ℤ b ≡ a +ℤ (pos 0 -ℤ b)
-lowered_shift a b = ap (λ z. a +ℤ z) (sym (+ℤ_idl (neg_ℤ b)))

@@ -1,4 +1,4 @@
--- In what a well formed program becomes, both forms of each contract that members keep say the same.
+-- In what a well formed program becomes, both forms of each contract that members keep are made alike.
 use Rattle.std.proofs.Common.{◌≡◌, ℕ, ◌+◌, Bool, true, None, List, [], ◌∷◌, map, sym, subst}
 use Rattle.std.specs.List.{flat_map, AllByRecursion}
 use Rattle.pv_ast.specs.declared.Stmt.{Stmt}
@@ -20,53 +20,76 @@ use Rattle.pv_picks.proofs.Clean.{Clean, clean_from}
 use Rattle.pv_picks.proofs.StmtLayers.{parts_in_pieces}
 use Rattle.pv_picks.proofs.Confining.{no_first, no_second}
 use Rattle.pv_picks.proofs.Blocks.{method_blocked, outside_blocked}
-use Rattle.sharing_laws.specs.Sharing.{BlockAgrees, MemberAgrees, ClassAgrees, FormsAgree}
+use Rattle.sharing_laws.specs.Keeping.{SaidInBlock, SaidInMember, SaidInClass, EachShared}
+use Rattle.sharing_laws.specs.Forms.{SameShared, FormsCorrespond}
+use Rattle.sharing_laws.specs.Elements.{SharedHasElements, ItemsHaveElements}
+use Rattle.sharing_laws.proofs.Keeping.{each_follows}
+use Rattle.sharing_laws.proofs.Making.{SharedIsMade, made_same, made_elements}
 use Rattle.sharing_laws.proofs.Statements.{Stands, statement_law}
 
 -- Bodies
 
-body_agrees : (ss : List Stmt) (n : ℕ) (a : Around) (v : Visible) (spot : Spot) (site : Site) → Stands v None → Clean (faults_of_body (map (λ s. s.part) (map piece_of_stmt ss)) a v spot) → faults_of_block ss outside ≡ []
-    → BlockAgrees None (block_from n (map piece_of_stmt ss) a v site)
-body_agrees [] n a v spot site stands clean none = tt
-body_agrees (s ∷ ss) n a v spot site stands clean none =
+body_same : (ss : List Stmt) (n : ℕ) (a : Around) (v : Visible) (spot : Spot) (site : Site) → Stands v None
+    → Clean (faults_of_body (map (λ s. s.part) (map piece_of_stmt ss)) a v spot) → faults_of_block ss outside ≡ []
+    → SaidInBlock SharedIsMade None (block_from n (map piece_of_stmt ss) a v site)
+body_same [] n a v spot site stands clean none = tt
+body_same (s ∷ ss) n a v spot site stands clean none =
     let done = statement_law s a v outside (no_first (faults_of_stmt s outside) (faults_of_block ss outside) none) in
     let here : Spot = record spot { last = is_nothing (map (λ s. s.part) (map piece_of_stmt ss)) } in (
       done.statement None here (at n site) clean.0 stands tt,
-      body_agrees ss (n + 1) a ((piece_of_stmt s).part.behind v) spot site (done.further None stands) clean.1 (no_second (faults_of_stmt s outside) (faults_of_block ss outside) none),
+      body_same ss (n + 1) a ((piece_of_stmt s).part.behind v) spot site (done.further None stands) clean.1
+          (no_second (faults_of_stmt s outside) (faults_of_block ss outside) none),
     )
 
-whole_body : (a : Around) (v : Visible) (method : Bool) (ss : List Stmt) → Stands v None → Clean (faults_of_body (parts_of_block ss) a v (at_body method)) → faults_of_block ss outside ≡ [] → BlockAgrees None (core_of_body a v ss)
+whole_body : (a : Around) (v : Visible) (method : Bool) (ss : List Stmt) → Stands v None
+    → Clean (faults_of_body (parts_of_block ss) a v (at_body method)) → faults_of_block ss outside ≡ []
+    → SaidInBlock SharedIsMade None (core_of_body a v ss)
 whole_body a v method ss stands clean none =
-    body_agrees ss 0 a v (at_body method) (outermost v) stands (subst (λ (ps : List StmtPart). Clean (faults_of_body ps a v (at_body method))) (sym (parts_in_pieces ss)) clean) none
+    body_same ss 0 a v (at_body method) (outermost v) stands
+    (subst (λ (ps : List StmtPart). Clean (faults_of_body ps a v (at_body method))) (sym (parts_in_pieces ss)) clean) none
 
 -- Members
 
-member_agrees : (a : Around) (m : Member) → Clean (faults_of_member a m) → shapes.faults_of_member m ≡ [] → MemberAgrees (core_of_member a m)
-member_agrees a (member.Field f) clean none = tt
-member_agrees a (member.Predicate q) clean none = tt
-member_agrees a (member.Method m) clean none =
-    whole_body (in_method a m) (parameters_in_scope m) true m.body (method_blocked m.params, tt) clean.1.1.1.0 (no_second (faults_of_contract m.contract) (faults_of_block m.body outside) none)
-member_agrees a (member.Run r) clean none =
-    whole_body a nothing_visible _ r.body (outside_blocked, tt) clean.1 (no_second (faults_of_contract r.contract) (faults_of_block r.body outside) none)
+member_same : (a : Around) (m : Member) → Clean (faults_of_member a m) → shapes.faults_of_member m ≡ []
+    → SaidInMember SharedIsMade (core_of_member a m)
+member_same a (member.Field f) clean none = tt
+member_same a (member.Predicate q) clean none = tt
+member_same a (member.Method m) clean none =
+    whole_body (in_method a m) (parameters_in_scope m) true m.body (method_blocked m.params, tt) clean.1.1.1.0
+    (no_second (faults_of_contract m.contract) (faults_of_block m.body outside) none)
+member_same a (member.Run r) clean none =
+    whole_body a nothing_visible _ r.body (outside_blocked, tt) clean.1
+    (no_second (faults_of_contract r.contract) (faults_of_block r.body outside) none)
 
-members_agree : (a : Around) (ms : List Member) → Clean (faults_of_members a ms) → flat_map shapes.faults_of_member ms ≡ [] → AllByRecursion MemberAgrees (map (core_of_member a) ms)
-members_agree a [] clean none = tt
-members_agree a (m ∷ ms) clean none = (
-  member_agrees a m clean.0 (no_first (shapes.faults_of_member m) (flat_map shapes.faults_of_member ms) none),
-  members_agree a ms clean.1 (no_second (shapes.faults_of_member m) (flat_map shapes.faults_of_member ms) none),
+members_same : (a : Around) (ms : List Member) → Clean (faults_of_members a ms) → flat_map shapes.faults_of_member ms ≡ []
+    → AllByRecursion (SaidInMember SharedIsMade) (map (core_of_member a) ms)
+members_same a [] clean none = tt
+members_same a (m ∷ ms) clean none = (
+  member_same a m clean.0 (no_first (shapes.faults_of_member m) (flat_map shapes.faults_of_member ms) none),
+  members_same a ms clean.1 (no_second (shapes.faults_of_member m) (flat_map shapes.faults_of_member ms) none),
 )
 
 -- Classes
 
-class_agrees : (p : Program) (c : Class) → Clean (faults_of_class p c) → shapes.faults_of_class c ≡ [] → ClassAgrees (core_of_class p c)
-class_agrees p c clean none = members_agree (in_class p c) c.members clean.1.1.1 (no_second (faults_of_invariant c.lock_invariant) (flat_map shapes.faults_of_member c.members) none)
+class_same : (p : Program) (c : Class) → Clean (faults_of_class p c) → shapes.faults_of_class c ≡ []
+    → SaidInClass SharedIsMade (core_of_class p c)
+class_same p c clean none =
+    members_same (in_class p c) c.members clean.1.1.1
+    (no_second (faults_of_invariant c.lock_invariant) (flat_map shapes.faults_of_member c.members) none)
 
-classes_agree : (p : Program) (cs : List Class) → Clean (faults_of_classes p cs) → flat_map shapes.faults_of_class cs ≡ [] → AllByRecursion ClassAgrees (map (core_of_class p) cs)
-classes_agree p [] clean none = tt
-classes_agree p (c ∷ cs) clean none = (
-  class_agrees p c clean.0 (no_first (shapes.faults_of_class c) (flat_map shapes.faults_of_class cs) none),
-  classes_agree p cs clean.1 (no_second (shapes.faults_of_class c) (flat_map shapes.faults_of_class cs) none),
+classes_same : (p : Program) (cs : List Class) → Clean (faults_of_classes p cs) → flat_map shapes.faults_of_class cs ≡ []
+    → AllByRecursion (SaidInClass SharedIsMade) (map (core_of_class p) cs)
+classes_same p [] clean none = tt
+classes_same p (c ∷ cs) clean none = (
+  class_same p c clean.0 (no_first (shapes.faults_of_class c) (flat_map shapes.faults_of_class cs) none),
+  classes_same p cs clean.1 (no_second (shapes.faults_of_class c) (flat_map shapes.faults_of_class cs) none),
 )
 
-pub program_agrees : (p : Program) → IsWellFormed p → FormsAgree (core_of p)
-program_agrees p well = classes_agree p p.classes (clean_from (faults_of_program p) well.rules).1 well.shapes
+pub program_made : (p : Program) → IsWellFormed p → EachShared SharedIsMade (core_of p)
+program_made p well = classes_same p p.classes (clean_from (faults_of_program p) well.rules).1 well.shapes
+
+pub program_same : (p : Program) → IsWellFormed p → FormsCorrespond (core_of p)
+program_same p well = each_follows SharedIsMade SameShared made_same (core_of p) (program_made p well)
+
+pub program_elements : (p : Program) → IsWellFormed p → ItemsHaveElements (core_of p)
+program_elements p well = each_follows SharedIsMade SharedHasElements made_elements (core_of p) (program_made p well)

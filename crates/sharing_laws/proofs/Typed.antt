@@ -24,8 +24,11 @@ use Rattle.pv_picks.proofs.Layers.{layer_of, kind_at_roll, each_at_roll, expr_at
 use Rattle.pv_picks.proofs.Settling.{settled}
 
 -- the type that is needed of a part without a fault
-pub meets_piece : (e : Expr) (a : Around) (v : Visible) (c : Context) (need : Need) → Clean ((piece_of e).part.faults a v c need) → typing.meets need (typing_in (piece_of e).part a v) ≡ true
-meets_piece e a v c need = subst (λ (p : Part). Clean (p.faults a v c need) → typing.meets need (typing_in p a v) ≡ true) (sym (part_in_piece e)) (settled e a v c need)
+pub meets_piece : (e : Expr) (a : Around) (v : Visible) (c : Context) (need : Need) → Clean ((piece_of e).part.faults a v c need)
+    → typing.meets need (typing_in (piece_of e).part a v) ≡ true
+meets_piece e a v c need =
+    subst (λ (p : Part). Clean (p.faults a v c need) → typing.meets need (typing_in p a v) ≡ true) (sym (part_in_piece e))
+    (settled e a v c need)
 
 -- a type other than that of truth values
 abbrev pub is_other : Typing → Bool
@@ -53,7 +56,8 @@ other_array (Typed Null) k = refl
 other_array Unsettled k = absurd cc
 other_array Untyped k = absurd cc
 
-other_target : (length : Bool) (t : Typing) → typing.meets (if length then AnObjectOrArray else AnObject) t ≡ true → is_other t ≡ true
+other_target : (length : Bool) (t : Typing) → typing.meets (if length then AnObjectOrArray else AnObject) t ≡ true → is_other t
+    ≡ true
 other_target length (Typed (Object c)) k = refl
 other_target length (Typed Int) k = refl
 other_target true (Typed Truth) k = absurd cc
@@ -81,7 +85,8 @@ no_equality (Typed a) Untyped k = cc
 no_equality Unsettled t k = cc
 no_equality Untyped t k = cc
 
-no_use : (args : List Part) (signature : Signature) (a : Around) (v : Visible) → is_other (typing_of_use args signature a v) ≡ true → ⊥
+no_use : (args : List Part) (signature : Signature) (a : Around) (v : Visible) → is_other (typing_of_use args signature a v)
+    ≡ true → ⊥
 no_use args unsought a v k = cc
 no_use args unknown a v k = cc
 no_use args (taking types) a v k = no_truth _ k
@@ -102,7 +107,8 @@ beside_left (Typed Null) k = refl
 beside_left Unsettled k = absurd cc
 beside_left Untyped k = absurd cc
 
-pub beside_right : (t : Typing) → typing.meets (Exactly Truth) (typing.typing_of_equality t (Typed Int)) ≡ true → is_other t ≡ true
+pub beside_right : (t : Typing) → typing.meets (Exactly Truth) (typing.typing_of_equality t (Typed Int)) ≡ true → is_other t
+    ≡ true
 beside_right (Typed Int) k = refl
 beside_right (Typed Truth) k = absurd cc
 beside_right (Typed (Object c)) k = refl
@@ -113,14 +119,16 @@ beside_right Unsettled k = absurd cc
 beside_right Untyped k = absurd cc
 
 abbrev KindLaw : KindPiece → Type 0
-KindLaw k = (a : Around) (v : Visible) (span : Span) (c : Context) → Clean (k.part.faults span a v c) → is_other (k.part.seen a v).typing ≡ true → (k.shape.facts 0).pure ≡ true
+KindLaw k = (a : Around) (v : Visible) (span : Span) (c : Context) → Clean (k.part.faults span a v c)
+    → is_other (k.part.seen a v).typing ≡ true → (k.shape.facts 0).pure ≡ true
 
 -- a quantifier is a truth value
 abbrev EachLaw : EachPiece → Type 0
 EachLaw q = (a : Around) (v : Visible) → is_other (q.part.seen a v).typing ≡ true → ⊥
 
 abbrev pub ExprLaw : Piece → Type 0
-ExprLaw p = (a : Around) (v : Visible) (c : Context) (need : Need) → Clean (p.part.faults a v c need) → is_other (typing_in p.part a v) ≡ true → (p.shape.facts 0).pure ≡ true
+ExprLaw p = (a : Around) (v : Visible) (c : Context) (need : Need) → Clean (p.part.faults a v c need)
+    → is_other (typing_in p.part a v) ≡ true → (p.shape.facts 0).pure ≡ true
 
 abbrev Kinds : Type 0
 Kinds = (k : ExprKind) × KindLaw (piece_of_kind k)
@@ -142,7 +150,8 @@ variable_pure true = refl
 variable_pure false = refl
 
 -- both sides of an operator of numbers
-two_numbers : (x y : Exprs) (a : Around) (v : Visible) (c : Context) → Clean ((piece_of x.0).part.faults a v c (Exactly Int)) → Clean ((piece_of y.0).part.faults a v c (Exactly Int))
+two_numbers : (x y : Exprs) (a : Around) (v : Visible) (c : Context) → Clean ((piece_of x.0).part.faults a v c (Exactly Int))
+    → Clean ((piece_of y.0).part.faults a v c (Exactly Int))
     → ((piece_of x.0).shape.facts 0).pure && ((piece_of y.0).shape.facts 0).pure ≡ true
 two_numbers x y a v c clean_x clean_y =
     and_from _ _ (x.1 a v c (Exactly Int) clean_x (other_int _ (meets_piece x.0 a v c (Exactly Int) clean_x)))
@@ -156,8 +165,10 @@ operator_law op.Lt x y = λ a v span c clean is. two_numbers x y a v c clean.0 c
 operator_law op.Le x y = λ a v span c clean is. two_numbers x y a v c clean.0 clean.1
 operator_law op.Gt x y = λ a v span c clean is. two_numbers x y a v c clean.0 clean.1
 operator_law op.Ge x y = λ a v span c clean is. two_numbers x y a v c clean.0 clean.1
-operator_law op.Eq x y = λ a v span c clean is. absurd (no_equality (typing_in (piece_of x.0).part a v) (typing_in (piece_of y.0).part a v) is)
-operator_law op.Ne x y = λ a v span c clean is. absurd (no_equality (typing_in (piece_of x.0).part a v) (typing_in (piece_of y.0).part a v) is)
+operator_law op.Eq x y =
+    λ a v span c clean is. absurd (no_equality (typing_in (piece_of x.0).part a v) (typing_in (piece_of y.0).part a v) is)
+operator_law op.Ne x y =
+    λ a v span c clean is. absurd (no_equality (typing_in (piece_of x.0).part a v) (typing_in (piece_of y.0).part a v) is)
 operator_law op.And x y = λ a v span c clean is. absurd (no_truth _ is)
 operator_law op.Or x y = λ a v span c clean is. absurd (no_truth _ is)
 operator_law op.Implies x y = λ a v span c clean is. absurd (no_truth _ is)
@@ -174,22 +185,31 @@ layer_law ExprKind-F.This = λ a v span c clean is. refl
 layer_law ExprKind-F.Result = λ a v span c clean is. refl
 layer_law (ExprKind-F.Var w) = λ a v span c clean is. variable_pure (nat_eq w.name.0 0)
 layer_law (ExprKind-F.Field e w) = λ a v span c clean is.
-    e.1 a v c (need_of_target a w.name) clean.0 (other_target (is_length a w.name) _ (meets_piece e.0 a v c (need_of_target a w.name) clean.0))
+    e.1 a v c (need_of_target a w.name) clean.0 (other_target (is_length a w.name) _
+    (meets_piece e.0 a v c (need_of_target a w.name) clean.0))
 layer_law (ExprKind-F.Index e i) = λ a v span c clean is.
     and_from _ _ (e.1 a v c AnArray clean.0 (other_array _ (meets_piece e.0 a v c AnArray clean.0)))
     (i.1 a v c (Exactly Int) clean.1 (other_int _ (meets_piece i.0 a v c (Exactly Int) clean.1)))
 layer_law (ExprKind-F.Not e) = λ a v span c clean is. absurd (no_truth _ is)
-layer_law (ExprKind-F.Minus e) = λ a v span c clean is. e.1 a v c (Exactly Int) clean (other_int _ (meets_piece e.0 a v c (Exactly Int) clean))
+layer_law (ExprKind-F.Minus e) =
+    λ a v span c clean is. e.1 a v c (Exactly Int) clean (other_int _ (meets_piece e.0 a v c (Exactly Int) clean))
 layer_law (ExprKind-F.Binary o x y) = operator_law o x y
-layer_law (ExprKind-F.Old e) = λ a v span c clean is. e.1 a v (typing.purely c) Anything clean.0 (old_other (typing_in (piece_of e.0).part a v) is)
+layer_law (ExprKind-F.Old e) =
+    λ a v span c clean is. e.1 a v (typing.purely c) Anything clean.0 (old_other (typing_in (piece_of e.0).part a v) is)
 layer_law (ExprKind-F.Perm e part whole amount) = λ a v span c clean is. absurd (no_truth _ is)
 layer_law (ExprKind-F.Token t e) = λ a v span c clean is. absurd (no_truth _ is)
-layer_law (ExprKind-F.Instance None w es) = λ a v span c clean is. absurd (no_use (parts_in es) (predicate_signature (holder_of a (seen_of_target a v None)) w.name) a v is)
-layer_law (ExprKind-F.Instance (Some e) w es) = λ a v span c clean is. absurd (no_use (parts_in es) (predicate_signature (holder_of a ((piece_of e.0).part.seen a v)) w.name) a v is)
+layer_law (ExprKind-F.Instance None w es) =
+    λ a v span c clean is. absurd (no_use (parts_in es)
+    (predicate_signature (holder_of a (seen_of_target a v None)) w.name) a v is)
+layer_law (ExprKind-F.Instance (Some e) w es) =
+    λ a v span c clean is. absurd (no_use (parts_in es)
+    (predicate_signature (holder_of a ((piece_of e.0).part.seen a v)) w.name) a v is)
 layer_law (ExprKind-F.Each q) = λ a v span c clean is. absurd (q.1 a v is)
 
-kind_step : (x : ExprKind-F ExprKind Each Expr) (y : ExprKind-F Kinds Eaches Exprs) → without y ≡ x → KindLaw (piece_of_kind (roll-ExprKind x))
-kind_step x y is = subst KindLaw (sym (kind_at_roll x)) (subst (λ (z : ExprKind-F ExprKind Each Expr). LayerLaw (layer_of z)) is (layer_law y))
+kind_step : (x : ExprKind-F ExprKind Each Expr) (y : ExprKind-F Kinds Eaches Exprs) → without y ≡ x
+    → KindLaw (piece_of_kind (roll-ExprKind x))
+kind_step x y is =
+    subst KindLaw (sym (kind_at_roll x)) (subst (λ (z : ExprKind-F ExprKind Each Expr). LayerLaw (layer_of z)) is (layer_law y))
 
 each_step : (x : Each-F ExprKind Each Expr) → EachLaw (piece_of_each (roll-Each x))
 each_step x = subst EachLaw (sym (each_at_roll x)) (λ a v i. no_truth _ i)
@@ -197,11 +217,15 @@ each_step x = subst EachLaw (sym (each_at_roll x)) (λ a v i. no_truth _ i)
 expr_law : (span : Span) (k : KindPiece) → KindLaw k → ExprLaw (piece_in_expr (record { span = span; kind = k }))
 expr_law span k law = λ a v c need clean is. law a v span c clean.0 is
 
-expr_step : (x : Expr-F ExprKind Each Expr) (y : Expr-F Kinds Eaches Exprs) → map-Expr Kinds Eaches Exprs ExprKind Each Expr (λ e. e.0) (λ e. e.0) (λ e. e.0) y ≡ x → ExprLaw (piece_of (roll-Expr x))
+expr_step : (x : Expr-F ExprKind Each Expr) (y : Expr-F Kinds Eaches Exprs)
+    → map-Expr Kinds Eaches Exprs ExprKind Each Expr (λ e. e.0) (λ e. e.0) (λ e. e.0) y ≡ x → ExprLaw (piece_of (roll-Expr x))
 expr_step x y is =
     subst ExprLaw (sym (expr_at_roll x))
-    (subst (λ (z : Expr-F ExprKind Each Expr). ExprLaw (piece_in_expr (map-Expr ExprKind Each Expr KindPiece EachPiece Piece piece_of_kind piece_of_each piece_of z))) is
+    (subst (λ (z : Expr-F ExprKind Each Expr). ExprLaw
+    (piece_in_expr (map-Expr ExprKind Each Expr KindPiece EachPiece Piece piece_of_kind piece_of_each piece_of z))) is
     (expr_law y.span (piece_of_kind y.kind.0) y.kind.1))
 
 pub other_pure : (e : Expr) → ExprLaw (piece_of e)
-other_pure = ind-Expr (λ k. KindLaw (piece_of_kind k)) (λ q. EachLaw (piece_of_each q)) (λ e. ExprLaw (piece_of e)) kind_step (λ x y is. each_step x) expr_step
+other_pure =
+    ind-Expr (λ k. KindLaw (piece_of_kind k)) (λ q. EachLaw (piece_of_each q)) (λ e. ExprLaw (piece_of e)) kind_step
+    (λ x y is. each_step x) expr_step

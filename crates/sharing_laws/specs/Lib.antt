@@ -1,1 +1,10 @@
+pub mod Keeping
 pub mod Sharing
+pub mod Forms
+pub mod Following
+pub mod Exhaled
+pub mod Elements
+pub mod Renumbering
+pub mod Inhaled
+pub mod Places
+pub mod Waiting

@@ -16,7 +16,7 @@ method_fits = record {
   body = declares Int refl (refl, refl, refl)
       (goes_first (assigns Int (refl, refl) refl)
       (goes_first (assigns Int refl (refl, (next_method, refl, (refl, tt), refl)))
-      (goes_first (answers Int refl refl) ends)));
+      (goes_first (answers Int refl tt refl) ends)));
   result = λ type e. refl;
 }
 
@@ -29,12 +29,16 @@ program-fits = record {
   runs = λ class m e. none class m (same_name counter class) e;
 }
   where
-    chosen : (class : Name) (m : Method) (b : Bool) → counter ≡ class → cond b (Some next_method) None ≡ Some m → MethodFits program class m
-    chosen class m true s e = subst (λ n. MethodFits program class n) (same_Some next_method m e) (subst (λ c. MethodFits program c next_method) s method_fits)
+    chosen : (class : Name) (m : Method) (b : Bool) → counter ≡ class → cond b (Some next_method) None ≡ Some m
+        → MethodFits program class m
+    chosen class m true s e =
+        subst (λ n. MethodFits program class n) (same_Some next_method m e)
+        (subst (λ c. MethodFits program c next_method) s method_fits)
     chosen class m false s e = absurd (none-some m e)
 
     found : (class name : Name) (m : Method) (b : Bool) → same_name counter class ≡ b
-        → first_that (λ n. has_name n.name name) (filter_map method_of (members_of (cond b (Some counter_class) None))) ≡ Some m → MethodFits program class m
+        → first_that (λ n. has_name n.name name) (filter_map method_of (members_of (cond b (Some counter_class) None))) ≡ Some m
+        → MethodFits program class m
     found class name m true s e = chosen class m (same_name (named 2) name) (same_class class s) e
     found class name m false s e = absurd (none-some m e)
 

@@ -16,7 +16,8 @@ use Rattle.pv_meaning.specs.Heaps.{Heap, with_array}
 use Rattle.pv_meaning.specs.Values.{Variables, reference_in, array_of, default_of, with_variable, with_arguments, no_variables}
 use Rattle.pv_meaning.specs.Members.{field_type}
 use Rattle.pv_meaning.specs.Starts.{field_kind, kind_of}
-use Rattle.pv_meaning.specs.Tasks.{Run, size_of_tasks}
+use Rattle.pv_meaning.specs.Tasks.{Run}
+use Rattle.pv_meaning.specs.Measures.{size_of_tasks}
 use Rattle.pv_meaning.specs.Frames.{Frame, no_value, top, kept, settled, entered}
 use Rattle.pv_meaning.specs.Worlds.{Thread}
 use Rattle.machine_laws.specs.Typed.{HasKindOf, IsArrayOf, IsTypedHeap}
@@ -37,7 +38,8 @@ same-kept heap kind v h = h
 pub type-kept : (old new : Heap) → Keeps old new → (type : PvType) (v : Value) → HasType old type v → HasType new type v
 type-kept old new k type v h = k (Some (kind_of type)) v h
 
-pub values-kept : (old new : Heap) → Keeps old new → (types : List PvType) (vs : List Value) → ValuesFit old types vs → ValuesFit new types vs
+pub values-kept : (old new : Heap) → Keeps old new → (types : List PvType) (vs : List Value) → ValuesFit old types vs
+    → ValuesFit new types vs
 values-kept old new k [] vs h = tt
 values-kept old new k (type ∷ types) [] h = absurd h
 values-kept old new k (type ∷ types) (v ∷ vs) h = (type-kept old new k type v h.0, values-kept old new k types vs h.1)
@@ -55,7 +57,8 @@ frame-kept old new k h f t = record {
   tasks = t.tasks;
 }
 
-pub below-kept : (old new : Heap) → Keeps old new → (p : Program) (answer : Option PvType) (fs : List Frame) → BelowFits p old answer fs
+pub below-kept : (old new : Heap) → Keeps old new → (p : Program) (answer : Option PvType) (fs : List Frame)
+    → BelowFits p old answer fs
     → BelowFits p new answer fs
 below-kept old new k p answer [] t = tt
 below-kept old new k p answer (f ∷ fs) t = (
@@ -78,7 +81,8 @@ frames-kept old new k p [] t = tt
 frames-kept old new k p (f ∷ fs) t = (t.0, frame-kept old new k (home p f.class t.0) f t.1, below-kept old new k p t.0 fs t.2)
 
 -- a frame after its local work
-pub rested : (p : Program) (class : Name) (answer : Option PvType) (heap : Heap) (f : Frame) → FrameFits (home p class answer) heap f
+pub rested : (p : Program) (class : Name) (answer : Option PvType) (heap : Heap) (f : Frame)
+    → FrameFits (home p class answer) heap f
     → FrameFits (home p (settled f).class answer) heap (settled f)
 rested p class answer heap f t =
     let s : FrameFits (home p class answer) heap (settled f) = work-fits (home p class answer) heap (size_of_tasks f.tasks) f t in
@@ -91,8 +95,10 @@ chosen-fits p heap false t u h k = k
 
 -- What is read.
 
-pub read-field : (p : Program) (heap : Heap) (class name : Name) (type : PvType) (object v : Value) → IsTypedHeap (field_kind p) heap
-    → field_type p class name ≡ Some type → HasType heap (Object class) object → heap.value (location.Field (reference_in object) name) ≡ Some v
+pub read-field : (p : Program) (heap : Heap) (class name : Name) (type : PvType) (object v : Value)
+    → IsTypedHeap (field_kind p) heap
+    → field_type p class name ≡ Some type → HasType heap (Object class) object
+    → heap.value (location.Field (reference_in object) name) ≡ Some v
     → HasType heap type v
 read-field p heap class name type (value.Number z) v typed e o r = absurd o
 read-field p heap class name type (value.Truth b) v typed e o r = absurd o
@@ -101,19 +107,23 @@ read-field p heap class name type (value.Reference (suc n)) v typed e o r =
     let k : HasKindOf heap (field_kind p class name) v = typed.fields (suc n) class name v o r in
     subst (λ x. HasKindOf heap (option_map kind_of x) v) e k
 
-pub read-element : (p : Program) (heap : Heap) (type : PvType) (array v : Value) (index : ℤ) → IsTypedHeap (field_kind p) heap → IsElement type
+pub read-element : (p : Program) (heap : Heap) (type : PvType) (array v : Value) (index : ℤ) → IsTypedHeap (field_kind p) heap
+    → IsElement type
     → HasType heap (array_of type) array → heap.value (location.Cell (reference_in array) index) ≡ Some v → HasType heap type v
 read-element p heap type array v index typed (inl e) a r =
-    subst (λ t. HasType heap t v) (sym e) (numbers-place p heap array typed (subst (λ t. HasType heap (array_of t) array) e a) index v r)
+    subst (λ t. HasType heap t v) (sym e)
+    (numbers-place p heap array typed (subst (λ t. HasType heap (array_of t) array) e a) index v r)
 read-element p heap type array v index typed (inr e) a r =
-    subst (λ t. HasType heap t v) (sym e) (truths-place p heap array typed (subst (λ t. HasType heap (array_of t) array) e a) index v r)
+    subst (λ t. HasType heap t v) (sym e)
+    (truths-place p heap array typed (subst (λ t. HasType heap (array_of t) array) e a) index v r)
 
 -- New objects and arrays.
 
 nat_same : (n : ℕ) → nat_eq n n ≡ true
 nat_same n = grind (arith, nat_tests)
 
-pub object-new : (heap : Heap) (class : Name) (b : Bool) → b ≡ true → cond b (Some class) (heap.class (suc heap.count)) ≡ Some class
+pub object-new : (heap : Heap) (class : Name) (b : Bool) → b ≡ true
+    → cond b (Some class) (heap.class (suc heap.count)) ≡ Some class
 object-new heap class true e = refl
 object-new heap class false e = absurd (cc)
 
@@ -134,7 +144,8 @@ array_new : (heap : Heap) (test : Value → Bool) (first : Value) (size : ℕ) �
     → IsArrayOf test (with_array heap first size) (suc heap.count)
 array_new heap test first size h = (
   length_new (nat_eq (suc heap.count) (suc heap.count)) (pos size) (heap.length (suc heap.count)) (number-new heap),
-  (λ index v e. element_new test (nat_eq (suc heap.count) (suc heap.count)) _ first v (heap.value (location.Cell (suc heap.count) index))
+  (λ index v e. element_new test (nat_eq (suc heap.count) (suc heap.count)) _ first v
+      (heap.value (location.Cell (suc heap.count) index))
       (number-new heap) e h),
 )
 
@@ -162,7 +173,8 @@ taken-fits heap stack [] vs h = tt
 taken-fits heap stack (type ∷ types) vs h =
     go (drop (length types) vs) refl (under-fits heap (type ∷ stack) types vs h) (taken-fits heap (type ∷ stack) types vs h)
   where
-    go : (ds : List Value) → drop (length types) vs ≡ ds → ValuesFit heap (type ∷ stack) ds → ValuesFit heap types (reverse (take (length types) vs))
+    go : (ds : List Value) → drop (length types) vs ≡ ds → ValuesFit heap (type ∷ stack) ds
+        → ValuesFit heap types (reverse (take (length types) vs))
         → ValuesFit heap (type ∷ types) (reverse (take (suc (length types)) vs))
     go [] e k l = absurd k
     go (v ∷ us) e k others =
@@ -170,7 +182,8 @@ taken-fits heap stack (type ∷ types) vs h =
         (sym (ap (λ l. reverse l) (take_more (length types) vs v us e) ∙ reverse-append (take (length types) vs) (v ∷ [])))
         (k.0, others)
 
-arguments_fit : (heap : Heap) (xs : List Parameter) (variables : Variables) (ps : List Parameter) (vs : List Value) → VariablesFit heap xs variables
+arguments_fit : (heap : Heap) (xs : List Parameter) (variables : Variables) (ps : List Parameter) (vs : List Value)
+    → VariablesFit heap xs variables
     → ValuesFit heap (types_of ps) vs → VariablesFit heap (over xs ps) (with_arguments variables ps vs)
 arguments_fit heap xs variables [] vs fit h = fit
 arguments_fit heap xs variables (x ∷ ps) [] fit h = absurd h
@@ -187,14 +200,17 @@ result_given None false f = refl
 result_given (Some t) true f = refl
 result_given (Some t) false f = absurd (let e = f t refl in cc)
 
-pub object-fits : (heap : Heap) (class : Name) (v : Value) → HasType heap (Object class) v → HasType heap (Object class) (value.Reference (reference_in v))
+pub object-fits : (heap : Heap) (class : Name) (v : Value) → HasType heap (Object class) v
+    → HasType heap (Object class) (value.Reference (reference_in v))
 object-fits heap class (value.Number z) h = absurd h
 object-fits heap class (value.Truth b) h = absurd h
 object-fits heap class (value.Reference n) h = h
 
-pub entered-fits : (p : Program) (heap : Heap) (class : Name) (m : Method) (object : ℕ) (arguments : List Value) → MethodFits p class m
+pub entered-fits : (p : Program) (heap : Heap) (class : Name) (m : Method) (object : ℕ) (arguments : List Value)
+    → MethodFits p class m
     → HasType heap (Object class) (value.Reference object) → ValuesFit heap (types_of m.parameters) arguments
-    → FrameFits (home p (entered heap class m object arguments).class (Some (answer_of m))) heap (entered heap class m object arguments)
+    → FrameFits (home p (entered heap class m object arguments).class (Some (answer_of m))) heap
+    (entered heap class m object arguments)
 entered-fits p heap class m object arguments t o a =
     let f : Frame = record {
       class = class;
@@ -216,5 +232,6 @@ entered-fits p heap class m object arguments t o a =
       variables = arguments_fit heap [] no_variables m.parameters arguments (λ name type e. absurd (none-some type e)) a;
       result = first_result heap m.result;
       values = tt;
-      tasks = runs (over [] m.parameters) true t.body (λ n ty e. e) (λ g. result_given m.result (gives m.body) t.result) (done refl);
+      tasks =
+          runs (over [] m.parameters) true t.body (λ n ty e. e) (λ g. result_given m.result (gives m.body) t.result) (done refl);
     })

@@ -1,7 +1,7 @@
-mod Statements
-mod Local
-mod Labels
-mod Kept
-mod Steps
+pub mod Statements
+pub mod Local
+pub mod Labels
+pub mod Kept
+pub mod Steps
 pub mod Reached
-mod Counting
+pub mod Counting

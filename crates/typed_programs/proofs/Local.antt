@@ -15,7 +15,7 @@ use Rattle.pv_meaning.specs.Values.{Variables, with_variable}
 use Rattle.pv_meaning.specs.Tasks.{AtHead, Negated, Computed, Compared, Matched, Task, Evaluate, EvaluateAll, Combine, Choose, Branch, Turn, Put, Drop, Give, Unfolded, Run, Stand, Resume, Loop, tasks_of_statement}
 use Rattle.pv_meaning.specs.Frames.{Frame, top, combined, is_true, evaluated, worked, after_work}
 use Rattle.typed_programs.specs.Expressions.{Home, type_in, IsConstantOf, IsOf, onto}
-use Rattle.typed_programs.specs.Blocks.{gives, gives_statement, BlockFits, ends, goes_first, declares}
+use Rattle.typed_programs.specs.Blocks.{types_of, gives, gives_statement, BlockFits, ends, goes_first, declares}
 use Rattle.typed_programs.specs.Tasks.{at_head, IsWithin, TasksFit, evaluates, evaluates_none, evaluates_more, negates, computes, compares, matches, chooses, parts, turns, puts, puts_new, drops, gives_result, unfolded, runs, stands}
 use Rattle.typed_programs.specs.Frames.{HasType, ValuesFit, VariablesFit, ResultFits, FrameFits}
 use Rattle.typed_programs.proofs.Statements.{retyped, field-fits, element-fits, length-fits, right-fits, statement-fits}
@@ -31,7 +31,8 @@ constant-fits heap (value.Reference zero) TruthArray e = tt
 constant-fits heap (value.Reference zero) Null e = tt
 constant-fits heap (value.Reference (suc n)) type e = absurd e
 
-pub top-fits : (heap : Heap) (type : PvType) (types : List PvType) (vs : List Value) → ValuesFit heap (type ∷ types) vs → HasType heap type (top vs)
+pub top-fits : (heap : Heap) (type : PvType) (types : List PvType) (vs : List Value) → ValuesFit heap (type ∷ types) vs
+    → HasType heap type (top vs)
 top-fits heap type types [] h = absurd h
 top-fits heap type types (v ∷ vs) h = h.0
 
@@ -45,7 +46,8 @@ drop-one zero vs = refl
 drop-one (suc n) [] = refl
 drop-one (suc n) (v ∷ vs) = drop-one n vs
 
-pub two-fit : (heap : Heap) (a b : PvType) (types : List PvType) (vs : List Value) → ValuesFit heap (a ∷ b ∷ types) vs → ValuesFit heap types (drop 2 vs)
+pub two-fit : (heap : Heap) (a b : PvType) (types : List PvType) (vs : List Value) → ValuesFit heap (a ∷ b ∷ types) vs
+    → ValuesFit heap types (drop 2 vs)
 two-fit heap a b types vs h =
     subst (λ us. ValuesFit heap types us) (drop-one 1 vs) (rest-fits heap b types (drop 1 vs) (rest-fits heap a (b ∷ types) vs h))
 
@@ -58,7 +60,8 @@ under-fits heap stack (type ∷ types) vs h =
 
 -- without an object and the values over it
 pub past-fits : (heap : Heap) (stack before : List PvType) (object : PvType) (types : List PvType) (count : ℕ) (vs : List Value)
-    → before ≡ onto types (object ∷ stack) → length types ≡ count → ValuesFit heap before vs → ValuesFit heap stack (drop (suc count) vs)
+    → before ≡ onto types (object ∷ stack) → length types ≡ count → ValuesFit heap before vs
+    → ValuesFit heap stack (drop (suc count) vs)
 past-fits heap stack before object types count vs e l h =
     subst (λ n. ValuesFit heap stack (drop (suc n) vs)) l (subst (λ us. ValuesFit heap stack us) (drop-one (length types) vs)
     (rest-fits heap object stack (drop (length types) vs)
@@ -74,7 +77,8 @@ moved_over true false given h = refl
 moved_over false true given h = refl
 moved_over false false given h = h
 
-one_of_both : (c : Bool) (a b : Block) (given : Bool) → ((gives a && gives b) || given) ≡ true → (gives (cond c a b) || given) ≡ true
+one_of_both : (c : Bool) (a b : Block) (given : Bool) → ((gives a && gives b) || given) ≡ true → (gives (cond c a b) || given)
+    ≡ true
 one_of_both true a b given h = left (gives a) (gives b) given h
   where
     left : (x y g : Bool) → ((x && y) || g) ≡ true → (x || g) ≡ true
@@ -86,11 +90,13 @@ one_of_both false a b given h = right (gives a) (gives b) given h
     right true y g h = h
     right false y g h = or_right y g h
 
-chosen_block : (c : Bool) {h : Home} {xs : List Parameter} (a b : Block) → BlockFits h xs a → BlockFits h xs b → BlockFits h xs (cond c a b)
+chosen_block : (c : Bool) {h : Home} {xs : List Parameter} (a b : Block) → BlockFits h xs a → BlockFits h xs b
+    → BlockFits h xs (cond c a b)
 chosen_block true a b x y = x
 chosen_block false a b x y = y
 
-chosen_expression : (c : Bool) (h : Home) (xs : List Parameter) (a b : Expression) (type : PvType) → IsOf h xs a type → IsOf h xs b type
+chosen_expression : (c : Bool) (h : Home) (xs : List Parameter) (a b : Expression) (type : PvType) → IsOf h xs a type
+    → IsOf h xs b type
     → IsOf h xs (cond c a b) type
 chosen_expression true h xs a b type x y = x
 chosen_expression false h xs a b type x y = y
@@ -99,7 +105,8 @@ name_same : (a b : Name) → nat_eq a.0 b.0 ≡ true → a ≡ b
 name_same a b h = let e : a.0 ≡ b.0 = eqb-true a.0 b.0 h in ap (λ n. record { 0 = n }) e
 
 -- a variable gets a value of its type
-pub put-fits : (heap : Heap) (xs : List Parameter) (variables : Variables) (name : Name) (type : PvType) (v : Value) → type_in xs name ≡ Some type
+pub put-fits : (heap : Heap) (xs : List Parameter) (variables : Variables) (name : Name) (type : PvType) (v : Value)
+    → type_in xs name ≡ Some type
     → HasType heap type v → VariablesFit heap xs variables → VariablesFit heap xs (with_variable variables name v)
 put-fits heap xs variables name type v e k fit other t f = go (nat_eq other.0 name.0) refl
   where
@@ -110,7 +117,8 @@ put-fits heap xs variables name type v e k fit other t f = go (nat_eq other.0 na
     go false s = fit other t f
 
 -- a variable more has a value of its type
-pub new-fits : (heap : Heap) (xs : List Parameter) (variables : Variables) (name : Name) (type : PvType) (v : Value) → HasType heap type v
+pub new-fits : (heap : Heap) (xs : List Parameter) (variables : Variables) (name : Name) (type : PvType) (v : Value)
+    → HasType heap type v
     → VariablesFit heap xs variables → VariablesFit heap ((name, type) ∷ xs) (with_variable variables name v)
 new-fits heap xs variables name type v k fit other t f = go (nat_eq other.0 name.0) f
   where
@@ -145,9 +153,11 @@ module _ (h : Home) (heap : Heap) (f : Frame) (xs : List Parameter) (given : Boo
     tasks = d;
   }
 
-  evaluated-fits : {stack : List PvType} (e : Expression) (type : PvType) (rest : List Task) → IsOf h xs e type → ValuesFit heap stack f.values
+  evaluated-fits : {stack : List PvType} (e : Expression) (type : PvType) (rest : List Task) → IsOf h xs e type
+      → ValuesFit heap stack f.values
       → TasksFit h xs given (type ∷ stack) rest → FrameFits h heap (evaluated f e rest)
-  evaluated-fits {stack} (Constant v) type rest a vs d = with_values (type ∷ stack) (v ∷ f.values) rest (constant-fits heap v type a, vs) d
+  evaluated-fits {stack} (Constant v) type rest a vs d =
+      with_values (type ∷ stack) (v ∷ f.values) rest (constant-fits heap v type a, vs) d
   evaluated-fits {stack} This type rest a vs d =
       with_values (Object h.class ∷ stack) (value.Reference f.this ∷ f.values) rest (this, vs) (retyped type (Object h.class) a d)
   evaluated-fits Result type rest a vs d = absurd (none-some type a)
@@ -159,7 +169,8 @@ module _ (h : Home) (heap : Heap) (f : Frame) (xs : List Parameter) (given : Boo
       with_values stack f.values _ vs (element-fits element array index span type rest a d)
   evaluated-fits {stack} (Length element array span) type rest a vs d =
       with_values stack f.values _ vs (length-fits element array span type rest a d)
-  evaluated-fits {stack} (Not e) type rest a vs d = with_values stack f.values _ vs (evaluates Truth a.0 (negates (retyped type Truth a.1 d)))
+  evaluated-fits {stack} (Not e) type rest a vs d =
+      with_values stack f.values _ vs (evaluates Truth a.0 (negates (retyped type Truth a.1 d)))
   evaluated-fits {stack} (Compute manner operation x y span) type rest a vs d =
       with_values stack f.values _ vs (evaluates Int a.0 (evaluates Int a.1 (computes (retyped type Int a.2 d))))
   evaluated-fits {stack} (Compare order x y) type rest a vs d =
@@ -174,12 +185,16 @@ module _ (h : Home) (heap : Heap) (f : Frame) (xs : List Parameter) (given : Boo
       with_values stack f.values _ vs (evaluates Truth a.0 (chooses Truth a.1 refl (retyped type Truth a.2 d)))
   evaluated-fits (Old e) type rest a vs d = absurd (let no = a.0 in cc)
 
-  turned : (c : Bool) {stack : List PvType} (loop : Loop) (rest : List Task) → IsOf h xs loop.condition Truth → BlockFits h xs loop.body
-      → TasksFit h xs given stack rest → TasksFit h xs given stack (cond c (Run loop.body ∷ Stand (AtHead check.LoopKeep loop) ∷ rest) rest)
-  turned true {stack} loop rest a b d = runs xs given b (λ n t e. e) (λ g. or_right (gives loop.body) given g) (stands stack (at_head a b) d)
+  turned : (c : Bool) {stack : List PvType} (loop : Loop) (rest : List Task) → IsOf h xs loop.condition Truth
+      → BlockFits h xs loop.body
+      → TasksFit h xs given stack rest → TasksFit h xs given stack (cond c
+      (Run loop.body ∷ Stand (AtHead check.LoopKeep loop) ∷ rest) rest)
+  turned true {stack} loop rest a b d =
+      runs xs given b (λ n t e. e) (λ g. or_right (gives loop.body) given g) (stands stack (at_head a b) d)
   turned false loop rest a b d = d
 
-  run-fits : {stack : List PvType} (outer : List Parameter) (after : Bool) (b : Block) (rest : List Task) → BlockFits h xs b → IsWithin outer xs
+  run-fits : {stack : List PvType} (outer : List Parameter) (after : Bool) (b : Block) (rest : List Task) → BlockFits h xs b
+      → IsWithin outer xs
       → (after ≡ true → (gives b || given) ≡ true) → TasksFit h outer after stack rest → ValuesFit heap stack f.values
       → FrameFits h heap (worked f (Run b ∷ rest))
   run-fits {stack} outer after Stop rest ends within g d vs = record {
@@ -195,12 +210,14 @@ module _ (h : Home) (heap : Heap) (f : Frame) (xs : List Parameter) (given : Boo
   }
   run-fits {stack} outer after (Then s b) rest (goes_first x y) within g d vs =
       with_values stack f.values (tasks_of_statement s (Run b ∷ rest)) vs
-      (statement-fits s (Run b ∷ rest) x (runs outer after y within (λ a. moved_over (gives_statement s) (gives b) given (g a)) d))
+      (statement-fits s (Run b ∷ rest) x (runs outer after y within
+      (λ a. moved_over (gives_statement s) (gives b) given (g a)) d))
   run-fits {stack} outer after (Then s b) rest (declares {name = name} {right = right} {span = span} type new r y) within g d vs =
       with_values stack f.values (tasks_of_statement s (Run b ∷ rest)) vs
       (right-fits right span type _ r (puts_new new (runs outer after y (more_within outer xs name type new within) g d)))
 
-  worked-fits : {stack : List PvType} (ts : List Task) → f.tasks ≡ ts → ValuesFit heap stack f.values → TasksFit h xs given stack ts
+  worked-fits : {stack : List PvType} (ts : List Task) → f.tasks ≡ ts → ValuesFit heap stack f.values
+      → TasksFit h xs given stack ts
       → FrameFits h heap (worked f ts)
   worked-fits {stack} [] same vs d =
       with_values stack f.values f.tasks vs (subst (λ ts. TasksFit h xs given stack ts) (sym same) d)
@@ -219,10 +236,12 @@ module _ (h : Home) (heap : Heap) (f : Frame) (xs : List Parameter) (given : Boo
   worked-fits (Combine (Matched false) ∷ rest) same vs (matches {stack = s} {a = a} {b = b} d) =
       with_values (Truth ∷ s) (combined (Matched false) f.values) rest (refl, two-fit heap a b s f.values vs) d
   worked-fits (Choose a b ∷ rest) same vs (chooses {stack = s} type x y d) =
-      with_values s (drop 1 f.values) _ (rest-fits heap Truth s f.values vs) (evaluates type (chosen_expression (is_true f) h xs a b type x y) d)
+      with_values s (drop 1 f.values) _ (rest-fits heap Truth s f.values vs)
+      (evaluates type (chosen_expression (is_true f) h xs a b type x y) d)
   worked-fits (Branch a b ∷ rest) same vs (parts {stack = s} x y d) =
       with_values s (drop 1 f.values) _ (rest-fits heap Truth s f.values vs)
-      (runs xs ((gives a && gives b) || given) (chosen_block (is_true f) a b x y) (λ n t e. e) (one_of_both (is_true f) a b given) d)
+      (runs xs ((gives a && gives b) || given) (chosen_block (is_true f) a b x y) (λ n t e. e)
+      (one_of_both (is_true f) a b given) d)
   worked-fits (Turn loop ∷ rest) same vs (turns {stack = s} a b d) =
       with_values s (drop 1 f.values) _ (rest-fits heap Truth s f.values vs) (turned (is_true f) loop rest a b d)
   worked-fits (Put name ∷ rest) same vs (puts {stack = s} {type = type} e d) = record {
@@ -247,20 +266,23 @@ module _ (h : Home) (heap : Heap) (f : Frame) (xs : List Parameter) (given : Boo
     values = rest-fits heap type s f.values vs;
     tasks = d;
   }
-  worked-fits (Drop ∷ rest) same vs (drops {stack = s} {type = type} d) = with_values s (drop 1 f.values) rest (rest-fits heap type s f.values vs) d
-  worked-fits (Give ∷ rest) same vs (gives_result {stack = s} {type = type} e d) = record {
+  worked-fits (Drop ∷ rest) same vs (drops {stack = s} {type = type} d) =
+      with_values s (drop 1 f.values) rest (rest-fits heap type s f.values vs) d
+  worked-fits (Give ∷ rest) same vs (gives_result {stack = s} {type = type} e declared d) = record {
     scope = xs;
     given = true;
     stack = s;
     class = class;
     this = this;
     variables = variables;
-    result = λ g t k. subst (λ u. HasType heap u (top f.values)) (same_Some type t (sym e ∙ k)) (top-fits heap type s f.values vs);
+    result =
+        λ g t k. subst (λ u. HasType heap u (top f.values)) (same_Some type t (sym e ∙ k)) (top-fits heap type s f.values vs);
     values = rest-fits heap type s f.values vs;
     tasks = d;
   }
-  worked-fits (Unfolded name predicate count span ∷ rest) same vs (unfolded {before = before} stack types e l d) =
-      with_values stack (drop (suc count) f.values) rest (past-fits heap stack before (Object name) types count f.values e l vs) d
+  worked-fits (Unfolded name predicate count span ∷ rest) same vs (unfolded {before = before} stack q found e l d) =
+      with_values stack (drop (suc count) f.values) rest
+      (past-fits heap stack before (Object name) (types_of q.parameters) count f.values e l vs) d
   worked-fits (Run b ∷ rest) same vs (runs outer after x within g d) = run-fits outer after b rest x within g d vs
   worked-fits {stack} (Stand step ∷ rest) same vs d =
       with_values stack f.values f.tasks vs (subst (λ ts. TasksFit h xs given stack ts) (sym same) d)

@@ -6,7 +6,7 @@ use Rattle.pv_values.specs.declared.value.Value.{Value}
 use Rattle.pv_values.specs.declared.value.Value.TheVariants as value
 use Rattle.pv_values.specs.Heaps.{Things}
 use Rattle.pv_values.specs.Typing as typing
-use Rattle.pv_values.specs.Typing.{Kind, numbers, truths, objects, int_arrays, truth_arrays}
+use Rattle.pv_values.specs.Typing.{Kind, numbers, truths, objects, int_arrays, truth_arrays, nulls}
 use Rattle.pv_meaning.specs.Core.{Parameter, Program}
 use Rattle.pv_meaning.specs.Heaps.{Heap, heap_of}
 use Rattle.pv_meaning.specs.Starts.{field_kind, kind_of, AreArguments, Start, frame_of_start, IsStart, no_thread, first_world}
@@ -28,8 +28,10 @@ kind_there things truths v h = h
 kind_there things (objects class) v h = h
 kind_there things int_arrays v h = h
 kind_there things truth_arrays v h = h
+kind_there things nulls v h = h
 
-arguments_there : (things : Things) (ps : List Parameter) (vs : List Value) → AreArguments things ps vs → ValuesFit (heap_of things) (types_of ps) vs
+arguments_there : (things : Things) (ps : List Parameter) (vs : List Value) → AreArguments things ps vs
+    → ValuesFit (heap_of things) (types_of ps) vs
 arguments_there things [] [] h = tt
 arguments_there things [] (v ∷ vs) h = absurd h
 arguments_there things (x ∷ ps) [] h = absurd h
@@ -66,9 +68,11 @@ run_fits : (p : Program) → ProgramFits p → (events : List Event) (w : World)
 run_fits p program [] w t = t
 run_fits p program (event ∷ events) w t = run_fits p program events (happens p event w) (happens_fits p program event w t)
 
--- each reached world has a well typed heap
-pub reached-fits : (p : Program) → ProgramFits p → (w : World) → IsReached p w → IsTypedHeap (field_kind p) w.heap
+-- each reached world is well typed
+pub reached-fits : (p : Program) → ProgramFits p → (w : World) → IsReached p w → WorldFits p w
 reached-fits p program w r =
-    let t : WorldFits p w =
-    subst (λ v. WorldFits p v) r.leads (run_fits p program r.events (first_world r.start) (start-fits p program r.start r.starts)) in
-    t.heap
+    subst (λ v. WorldFits p v) r.leads (run_fits p program r.events (first_world r.start) (start-fits p program r.start r.starts))
+
+-- and so is its heap
+pub reached-typed : (p : Program) → ProgramFits p → (w : World) → IsReached p w → IsTypedHeap (field_kind p) w.heap
+reached-typed p program w r = let t : WorldFits p w = reached-fits p program w r in t.heap

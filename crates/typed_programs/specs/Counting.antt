@@ -19,7 +19,8 @@ counter = named 0
 
 abbrev pub next_body : Block
 next_body =
-    Then (Assign (ToVariable (named 4)) (Value' (Compute Plain Plus (Variable (named 3)) (Constant (value.Number (pos 1))) nowhere)) nowhere)
+    Then (Assign (ToVariable (named 4))
+    (Value' (Compute Plain Plus (Variable (named 3)) (Constant (value.Number (pos 1))) nowhere)) nowhere)
     (Then (Assign (ToField This counter (named 1) nowhere) (Value' (Variable (named 4))) nowhere)
     (Then (Assign (ToVariable (named 4)) (Call counter (named 2) This (Variable (named 4) ∷ [])) nowhere)
     (Then (Return (Some (Variable (named 4))) nowhere) Stop)))

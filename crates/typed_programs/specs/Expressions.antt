@@ -32,6 +32,15 @@ is_reference IntArray = true
 is_reference TruthArray = true
 is_reference Null = true
 
+-- a type that a field, a variable or a result may be declared with: any but that of null alone
+abbrev pub IsDeclared : PvType → Type 0
+IsDeclared Int = Unit {0}
+IsDeclared Truth = Unit {0}
+IsDeclared (Object class) = Unit {0}
+IsDeclared IntArray = Unit {0}
+IsDeclared TruthArray = Unit {0}
+IsDeclared Null = ⊥
+
 -- arrays are of whole numbers or of truth values
 abbrev pub IsElement : PvType → Type 0
 IsElement type = (type ≡ Int) ⊎ (type ≡ Truth)
@@ -58,7 +67,8 @@ Says h speech xs (Constant v) type = IsConstantOf v type
 Says h speech xs This type = type ≡ Object h.class
 Says h speech xs Result type = speech.result ≡ Some type
 Says h speech xs (Variable name) type = type_in xs name ≡ Some type
-Says h speech xs (Field object class name span) type = Says h speech xs object (Object class) × (field_type h.program class name ≡ Some type)
+Says h speech xs (Field object class name span) type =
+    Says h speech xs object (Object class) × (field_type h.program class name ≡ Some type)
 Says h speech xs (Element element array index span) type =
     Says h speech xs array (array_of element) × Says h speech xs index Int × IsElement element × (type ≡ element)
 Says h speech xs (Length element array span) type = Says h speech xs array (array_of element) × IsElement element × (type ≡ Int)

@@ -25,7 +25,8 @@ ValuesFit heap (type ∷ types) (v ∷ vs) = HasType heap type v × ValuesFit he
 
 -- each variable in scope has its type
 abbrev pub VariablesFit : Heap → List Parameter → Variables → Type 0
-VariablesFit heap xs variables = (name : Name) (type : PvType) → type_in xs name ≡ Some type → HasType heap type (variables name.0)
+VariablesFit heap xs variables = (name : Name) (type : PvType) → type_in xs name ≡ Some type
+    → HasType heap type (variables name.0)
 
 -- the result has the type of the answer, where one was given
 abbrev pub ResultFits : Heap → Option PvType → Bool → Value → Type 0

@@ -37,6 +37,11 @@ pub fn starts_are_typed()
     ensures { (p : Program) → ProgramFits p → (s : Start) → IsStart p s → WorldFits p (first_world s) }
 {}
 
+/// In a well typed program each reached world is well typed: its heap, and the frames of all its threads.
+pub fn reached_worlds_are_well_typed()
+    ensures { (p : Program) → ProgramFits p → (w : World) → IsReached p w → WorldFits p w }
+{}
+
 /// In a well typed program the heap of each reached world is well typed: every step writes values of the kinds of their places.
 pub fn reached_heaps_are_well_typed()
     ensures { (p : Program) → ProgramFits p → (w : World) → IsReached p w → IsTypedHeap (field_kind p) w.heap }

@@ -55,11 +55,13 @@ pub record Fits (h : Home) (speech : Speech) (a : Around) (xs : List core.Parame
 -- The laws of a kind and of an expression that are pure by their shape
 
 abbrev pub KindLaw : KindPiece → Type 0
-KindLaw k = (h : Home) (speech : Speech) (a : Around) (v : Visible) (xs : List core.Parameter) (span : Span) (c : Context) → Place h a v xs → Speaks speech a c → Clean (k.part.faults span a v c) → (k.shape.facts 0).pure ≡ true
+KindLaw k = (h : Home) (speech : Speech) (a : Around) (v : Visible) (xs : List core.Parameter) (span : Span) (c : Context)
+    → Place h a v xs → Speaks speech a c → Clean (k.part.faults span a v c) → (k.shape.facts 0).pure ≡ true
     → Fits h speech a xs (k.part.seen a v) (k.expression span a v)
 
 abbrev pub ExprLaw : Piece → Type 0
-ExprLaw p = (h : Home) (speech : Speech) (a : Around) (v : Visible) (xs : List core.Parameter) (c : Context) (need : Need) → Place h a v xs → Speaks speech a c → Clean (p.part.faults a v c need) → (p.shape.facts 0).pure ≡ true
+ExprLaw p = (h : Home) (speech : Speech) (a : Around) (v : Visible) (xs : List core.Parameter) (c : Context) (need : Need)
+    → Place h a v xs → Speaks speech a c → Clean (p.part.faults a v c need) → (p.shape.facts 0).pure ≡ true
     → Fits h speech a xs (p.part.seen a v) (p.expression a v)
 
 -- a quantifier is never pure
@@ -90,29 +92,36 @@ no_second [] ys h = h
 no_second (x ∷ xs) ys h = absurd cc
 
 -- a part that is neither `this` nor a place
-other_part : {h : Home} {speech : Speech} {a : Around} {xs : List core.Parameter} {t : Typing} {local : Bool} {e : Expression} → IsWanted h speech xs t e
+other_part : {h : Home} {speech : Speech} {a : Around} {xs : List core.Parameter} {t : Typing} {local : Bool} {e : Expression}
+    → IsWanted h speech xs t e
     → Fits h speech a xs (record { typing = t; this = false; location = false; local = local }) e
 other_part goes = record { this = λ i. absurd cc; goes = goes; place = λ i. absurd cc }
 
-place_part : {h : Home} {speech : Speech} {a : Around} {xs : List core.Parameter} {t : Typing} {location local : Bool} {e : Expression} → IsWanted h speech xs t e → (location ≡ true → IsPlace e)
+place_part : {h : Home} {speech : Speech} {a : Around} {xs : List core.Parameter} {t : Typing} {location local : Bool}
+    {e : Expression} → IsWanted h speech xs t e → (location ≡ true → IsPlace e)
     → Fits h speech a xs (record { typing = t; this = false; location = location; local = local }) e
 place_part goes place = record { this = λ i. absurd cc; goes = goes; place = place }
 
 -- Names
 
-own_field : (h : Home) (speech : Speech) (a : Around) (v : Visible) (xs : List core.Parameter) (span : Span) (name : Name) (o : Option PvType) → type_of_field a.here name ≡ o → Place h a v xs
+own_field : (h : Home) (speech : Speech) (a : Around) (v : Visible) (xs : List core.Parameter) (span : Span) (name : Name)
+    (o : Option PvType) → type_of_field a.here name ≡ o → Place h a v xs
     → IsWanted h speech xs (typing.typing_or Unsettled o) (core.Field core.This a.class name span)
 own_field h speech a v xs span name None found place need k = absurd cc
 own_field h speech a v xs span name (Some type) found place need k =
-    let here : type_of_field (class_named a.program.classes a.class) name ≡ Some type = ap (λ c. type_of_field c name) (sym place.sound.here) ∙ found in
+    let here : type_of_field (class_named a.program.classes a.class) name ≡ Some type =
+    ap (λ c. type_of_field c name) (sym place.sound.here) ∙ found in
     let same : need ≡ type = exact need type (not_null a.program.classes type (place.sound.fields a.class name type here)) k in
     (ap Object place.class, place.declares.fields a.class name type here ∙ ap (λ t. Some t) (sym same))
 
-name_law : (h : Home) (speech : Speech) (a : Around) (v : Visible) (xs : List core.Parameter) (span : Span) (name : Name) (o : Option Declared) → variable_named v name ≡ o → Place h a v xs
+name_law : (h : Home) (speech : Speech) (a : Around) (v : Visible) (xs : List core.Parameter) (span : Span) (name : Name)
+    (o : Option Declared) → variable_named v name ≡ o → Place h a v xs
     → Fits h speech a xs (seen_of_name a name o) (named a span name o)
-name_law h speech a v xs span name None found place = place_part (own_field h speech a v xs span name (type_of_field a.here name) refl place) (λ i. tt)
+name_law h speech a v xs span name None found place =
+    place_part (own_field h speech a v xs span name (type_of_field a.here name) refl place) (λ i. tt)
 name_law h speech a v xs span name (Some d) found place = other_part (λ need k.
-    let same : need ≡ d.kind = exact need d.kind (not_null a.program.classes d.kind (variable_declared h.program a v name d place.sound found)) k in
+    let same : need ≡ d.kind =
+    exact need d.kind (not_null a.program.classes d.kind (variable_declared h.program a v name d place.sound found)) k in
     place.listed name ∙ ap (option_map (λ d. d.kind)) found ∙ ap (λ t. Some t) (sym same))
 
 -- Fields and lengths
@@ -123,16 +132,20 @@ pub record FieldOf (a : Around) (s : Seen) (name : Name) (type : PvType) : Type 
   pub object : s.typing ≡ Typed (Object class)
   pub field : type_of_field (class_named a.program.classes class) name ≡ Some type
 
-some_type : (o : Option Param) (need : PvType) → typing.meets (Exactly need) (typing.typing_or Unsettled (type_of_param o)) ≡ true → (type : PvType) × (type_of_param o ≡ Some type) × (typing.fits need type ≡ true)
+some_type : (o : Option Param) (need : PvType) → typing.meets (Exactly need) (typing.typing_or Unsettled (type_of_param o)) ≡ true
+    → (type : PvType) × (type_of_param o ≡ Some type) × (typing.fits need type ≡ true)
 some_type None need k = absurd cc
 some_type (Some f) need k = (f.kind.kind, refl, k)
 
-pub class_here : (a : Around) (b : Bool) (class : Name) → a.here ≡ class_named a.program.classes a.class → (b ≡ true → class ≡ a.class) → class_of a b class ≡ class_named a.program.classes class
+pub class_here : (a : Around) (b : Bool) (class : Name) → a.here ≡ class_named a.program.classes a.class
+    → (b ≡ true → class ≡ a.class) → class_of a b class ≡ class_named a.program.classes class
 class_here a true class here k = here ∙ ap (class_named a.program.classes) (sym (k refl))
 class_here a false class here k = refl
 
-field_of : (h : Home) (a : Around) (v : Visible) (xs : List core.Parameter) (s : Seen) (name : Name) (need : PvType) (t : Typing) → s.typing ≡ t → Place h a v xs
-    → (s.this ≡ true → s.typing ≡ Typed (Object a.class)) → typing.meets (Exactly need) (typing_of_field_in (holder_of_typing a s.this t) name) ≡ true → FieldOf a s name need
+field_of : (h : Home) (a : Around) (v : Visible) (xs : List core.Parameter) (s : Seen) (name : Name) (need : PvType) (t : Typing)
+    → s.typing ≡ t → Place h a v xs
+    → (s.this ≡ true → s.typing ≡ Typed (Object a.class))
+    → typing.meets (Exactly need) (typing_of_field_in (holder_of_typing a s.this t) name) ≡ true → FieldOf a s name need
 field_of h a v xs s name need Unsettled is place this k = absurd cc
 field_of h a v xs s name need Untyped is place this k = absurd cc
 field_of h a v xs s name need (Typed Int) is place this k = absurd cc
@@ -142,32 +155,43 @@ field_of h a v xs s name need (Typed TruthArray) is place this k = absurd cc
 field_of h a v xs s name need (Typed Null) is place this k = absurd cc
 field_of h a v xs s name need (Typed (Object class)) is place this k =
     let o = some_type (field_named (members_of (class_of a s.this class)) name) need k in
-    let where_it_is : class_of a s.this class ≡ class_named a.program.classes class = class_here a s.this class place.sound.here (λ b. let same : Typed (Object class) ≡ Typed (Object a.class) = sym is ∙ this b in cc) in
-    let there : type_of_field (class_named a.program.classes class) name ≡ Some o.0 = ap (λ c. type_of_field c name) (sym where_it_is) ∙ o.1 in
+    let where_it_is : class_of a s.this class ≡ class_named a.program.classes class =
+    class_here a s.this class place.sound.here (λ b. let same : Typed (Object class) ≡ Typed (Object a.class) = sym is
+    ∙ this b in cc) in
+    let there : type_of_field (class_named a.program.classes class) name ≡ Some o.0 =
+    ap (λ c. type_of_field c name) (sym where_it_is) ∙ o.1 in
     record {
       class = class;
       object = is;
-      field = there ∙ ap (λ t. Some t) (sym (exact need o.0 (not_null a.program.classes o.0 (place.sound.fields class name o.0 there)) o.2));
+      field =
+          there ∙ ap (λ t. Some t) (sym (exact need o.0 (not_null a.program.classes o.0
+          (place.sound.fields class name o.0 there)) o.2));
     }
 
-member_law : (h : Home) (speech : Speech) (a : Around) (v : Visible) (xs : List core.Parameter) (s : Seen) (span : Span) (name : Name) (e : Expression) (length : Bool) → (length ≡ true → typing.meets AnArray s.typing ≡ true)
+member_law : (h : Home) (speech : Speech) (a : Around) (v : Visible) (xs : List core.Parameter) (s : Seen) (span : Span)
+    (name : Name) (e : Expression) (length : Bool) → (length ≡ true → typing.meets AnArray s.typing ≡ true)
     → Place h a v xs → Fits h speech a xs s e
-    → IsWanted h speech xs (if length then Typed Int else typing_of_field_in (holder_of a s) name) (if length then core.Length (elements_of s.typing) e span else core.Field e (class_at s.typing) name span)
+    → IsWanted h speech xs (if length then Typed Int else typing_of_field_in (holder_of a s) name)
+    (if length then core.Length (elements_of s.typing) e span else core.Field e (class_at s.typing) name span)
 member_law h speech a v xs s span name e true array place fits need k =
     let elements = array_wanted s.typing (array refl) in
     (fits.goes _ elements.1, elements.0, exact need Int refl k)
 member_law h speech a v xs s span name e false array place fits need k =
     let f = field_of h a v xs s name need s.typing refl place fits.this k in
-    let goes : Says h speech xs e (Object f.class) = fits.goes (Object f.class) (ap (typing.meets (Exactly (Object f.class))) f.object ∙ itself (Object f.class)) in
-    subst (λ (t : Typing). Says h speech xs (core.Field e (class_at t) name span) need) (sym f.object) (goes, place.declares.fields f.class name need f.field)
+    let goes : Says h speech xs e (Object f.class) =
+    fits.goes (Object f.class) (ap (typing.meets (Exactly (Object f.class))) f.object ∙ itself (Object f.class)) in
+    subst (λ (t : Typing). Says h speech xs (core.Field e (class_at t) name span) need) (sym f.object)
+    (goes, place.declares.fields f.class name need f.field)
 
-member_place : (s : Seen) (span : Span) (name : Name) (e : Expression) (length : Bool) → not length ≡ true → IsPlace (if length then core.Length (elements_of s.typing) e span else core.Field e (class_at s.typing) name span)
+member_place : (s : Seen) (span : Span) (name : Name) (e : Expression) (length : Bool) → not length ≡ true
+    → IsPlace (if length then core.Length (elements_of s.typing) e span else core.Field e (class_at s.typing) name span)
 member_place s span name e true k = absurd cc
 member_place s span name e false k = tt
 
 -- Operators
 
-plain : (h : Home) (speech : Speech) (xs : List core.Parameter) (e : Expression) (need : PvType) → Says h speech xs e need → Says h speech xs (plainly e) need
+plain : (h : Home) (speech : Speech) (xs : List core.Parameter) (e : Expression) (need : PvType) → Says h speech xs e need
+    → Says h speech xs (plainly e) need
 plain h speech xs (core.Compute manner core.Minus x y span) need k = k
 plain h speech xs (core.Compute manner core.Plus x y span) need k = k
 plain h speech xs (core.Compute manner core.Times x y span) need k = k
@@ -186,11 +210,13 @@ plain h speech xs (core.Or x y) need k = k
 plain h speech xs (core.Implies x y) need k = k
 plain h speech xs (core.Old e) need k = k
 
-plain_if : (h : Home) (speech : Speech) (xs : List core.Parameter) (b : Bool) (e : Expression) (need : PvType) → Says h speech xs e need → Says h speech xs (if b then plainly e else e) need
+plain_if : (h : Home) (speech : Speech) (xs : List core.Parameter) (b : Bool) (e : Expression) (need : PvType)
+    → Says h speech xs e need → Says h speech xs (if b then plainly e else e) need
 plain_if h speech xs true e need k = plain h speech xs e need k
 plain_if h speech xs false e need k = k
 
-compare : (h : Home) (speech : Speech) (xs : List core.Parameter) (x y : Expression) (s t : Typing) (need : PvType) → IsWanted h speech xs s x → IsWanted h speech xs t y
+compare : (h : Home) (speech : Speech) (xs : List core.Parameter) (x y : Expression) (s t : Typing) (need : PvType)
+    → IsWanted h speech xs s x → IsWanted h speech xs t y
     → typing.meets (Exactly need) (typing.typed_if (typing.both_meet (Exactly Int) s t) Truth) ≡ true
     → Says h speech xs (compared y x) Int × Says h speech xs (compared x y) Int × (need ≡ Truth)
 compare h speech xs x y s t need f g k =
@@ -198,20 +224,29 @@ compare h speech xs x y s t need f g k =
     let parts = and_parts _ _ two.0 in
     (plain_if h speech xs (is_literal y) x Int (f Int parts.0), plain_if h speech xs (is_literal x) y Int (g Int parts.1), two.1)
 
-compute : (h : Home) (speech : Speech) (xs : List core.Parameter) (x y : Expression) (s t : Typing) (type need : PvType) → typing.is_null type ≡ false → (operand : PvType) → IsWanted h speech xs s x → IsWanted h speech xs t y
-    → typing.meets (Exactly need) (typing.typed_if (typing.both_meet (Exactly operand) s t) type) ≡ true → Says h speech xs x operand × Says h speech xs y operand × (need ≡ type)
+compute : (h : Home) (speech : Speech) (xs : List core.Parameter) (x y : Expression) (s t : Typing) (type need : PvType)
+    → typing.is_null type ≡ false → (operand : PvType) → IsWanted h speech xs s x → IsWanted h speech xs t y
+    → typing.meets (Exactly need) (typing.typed_if (typing.both_meet (Exactly operand) s t) type) ≡ true
+    → Says h speech xs x operand × Says h speech xs y operand × (need ≡ type)
 compute h speech xs x y s t type need n operand f g k =
     let two = typed_if_wanted (typing.both_meet (Exactly operand) s t) type need n k in
     let parts = and_parts _ _ two.0 in
     (f operand parts.0, g operand parts.1, two.1)
 
-equate : (h : Home) (speech : Speech) (xs : List core.Parameter) (same : Bool) (x y : Expression) (s t : Typing) (need : PvType) → IsWanted h speech xs s x → IsWanted h speech xs t y
-    → typing.meets (Exactly need) (typing.typing_of_equality s t) ≡ true → Says h speech xs (core.Equal same (compared y x) (compared x y)) need
+equate : (h : Home) (speech : Speech) (xs : List core.Parameter) (same : Bool) (x y : Expression) (s t : Typing) (need : PvType)
+    → IsWanted h speech xs s x → IsWanted h speech xs t y
+    → typing.meets (Exactly need) (typing.typing_of_equality s t) ≡ true
+    → Says h speech xs (core.Equal same (compared y x) (compared x y)) need
 equate h speech xs same x y s t need f g k =
-    let both = equality_wanted s t need k in
-    (both.type, plain_if h speech xs (is_literal y) x both.type (f both.type both.left), plain_if h speech xs (is_literal x) y both.type (g both.type both.right), both.truth)
+    let both = equality_wanted s t need k in (
+      both.type,
+      plain_if h speech xs (is_literal y) x both.type (f both.type both.left),
+      plain_if h speech xs (is_literal x) y both.type (g both.type both.right),
+      both.truth,
+    )
 
-operation_law : (h : Home) (speech : Speech) (xs : List core.Parameter) (o : Operator) (span : Span) (x y : Expression) (s t : Typing) → IsWanted h speech xs s x → IsWanted h speech xs t y
+operation_law : (h : Home) (speech : Speech) (xs : List core.Parameter) (o : Operator) (span : Span) (x y : Expression)
+    (s t : Typing) → IsWanted h speech xs s x → IsWanted h speech xs t y
     → IsWanted h speech xs (typing.typing_of_operator o s t) (operation o span x y)
 operation_law h speech xs op.Add span x y s t f g need k = compute h speech xs x y s t Int need refl Int f g k
 operation_law h speech xs op.Sub span x y s t f g need k = compute h speech xs x y s t Int need refl Int f g k
@@ -227,17 +262,21 @@ operation_law h speech xs op.Or span x y s t f g need k = compute h speech xs x 
 operation_law h speech xs op.Implies span x y s t f g need k = compute h speech xs x y s t Truth need refl Truth f g k
 operation_law h speech xs op.Star span x y s t f g need k = compute h speech xs x y s t Truth need refl Truth f g k
 
-negation_law : (h : Home) (speech : Speech) (xs : List core.Parameter) (written : Option ℕ) (span : Span) (x : Expression) (need : PvType) → Says h speech xs x Int → need ≡ Int → Says h speech xs (negation written span x) need
+negation_law : (h : Home) (speech : Speech) (xs : List core.Parameter) (written : Option ℕ) (span : Span) (x : Expression)
+    (need : PvType) → Says h speech xs x Int → need ≡ Int → Says h speech xs (negation written span x) need
 negation_law h speech xs None span x need f same = (refl, f, same)
 negation_law h speech xs (Some n) span x need f same = same
 
 -- What a method's end and old states are
 
-result_wanted : (h : Home) (speech : Speech) (a : Around) (v : Visible) (xs : List core.Parameter) (o : Option PvType) → a.result ≡ o → Place h a v xs → speech.result ≡ a.result → IsWanted h speech xs (typing.typing_or Untyped o) core.Result
+result_wanted : (h : Home) (speech : Speech) (a : Around) (v : Visible) (xs : List core.Parameter) (o : Option PvType) → a.result
+    ≡ o → Place h a v xs → speech.result ≡ a.result → IsWanted h speech xs (typing.typing_or Untyped o) core.Result
 result_wanted h speech a v xs None is place same need k = absurd cc
-result_wanted h speech a v xs (Some type) is place same need k = same ∙ is ∙ ap (λ t. Some t) (sym (exact need type (not_null a.program.classes type (place.sound.result type is)) k))
+result_wanted h speech a v xs (Some type) is place same need k =
+    same ∙ is ∙ ap (λ t. Some t) (sym (exact need type (not_null a.program.classes type (place.sound.result type is)) k))
 
-old_wanted : (t : Typing) (need : PvType) → typing.meets (Exactly need) (typing.typing_of_old t) ≡ true → typing.meets (Exactly need) t ≡ true
+old_wanted : (t : Typing) (need : PvType) → typing.meets (Exactly need) (typing.typing_of_old t) ≡ true
+    → typing.meets (Exactly need) t ≡ true
 old_wanted (Typed type) need k = k
 old_wanted Unsettled need k = absurd cc
 old_wanted Untyped need k = absurd cc
@@ -256,13 +295,20 @@ layer_law (ExprKind-F.Number n) = λ h speech a v xs span c place speaks clean p
 layer_law (ExprKind-F.Truth b) = λ h speech a v xs span c place speaks clean pure. other_part (λ need k. exact need Truth refl k)
 layer_law ExprKind-F.Null = λ h speech a v xs span c place speaks clean pure. other_part (λ need k. null_wanted need k)
 layer_law ExprKind-F.This = λ h speech a v xs span c place speaks clean pure.
-    record { this = λ i. refl; goes = λ need k. exact need (Object a.class) refl k ∙ ap Object place.class; place = λ i. absurd cc }
+    record {
+      this = λ i. refl;
+      goes = λ need k. exact need (Object a.class) refl k ∙ ap Object place.class;
+      place = λ i. absurd cc;
+    }
 layer_law ExprKind-F.Result = λ h speech a v xs span c place speaks clean pure.
-    other_part (result_wanted h speech a v xs a.result refl place (speaks.result (unless_holds c.result rule.ResultPlace span clean)))
-layer_law (ExprKind-F.Var w) = λ h speech a v xs span c place speaks clean pure. name_law h speech a v xs span w.name (variable_named v w.name) refl place
+    other_part (result_wanted h speech a v xs a.result refl place
+    (speaks.result (unless_holds c.result rule.ResultPlace span clean)))
+layer_law (ExprKind-F.Var w) =
+    λ h speech a v xs span c place speaks clean pure. name_law h speech a v xs span w.name (variable_named v w.name) refl place
 layer_law (ExprKind-F.Field e w) = λ h speech a v xs span c place speaks clean pure.
     let s : Seen = (piece_of e.0).part.seen a v in
-    place_part (member_law h speech a v xs s span w.name ((piece_of e.0).expression a v) (is_array_length a w.name s.typing) (λ b. (and_parts (typing.meets AnArray s.typing) _ b).0)
+    place_part (member_law h speech a v xs s span w.name ((piece_of e.0).expression a v) (is_array_length a w.name s.typing)
+    (λ b. (and_parts (typing.meets AnArray s.typing) _ b).0)
     place (e.1 h speech a v xs c (need_of_target a w.name) place speaks clean.0 pure))
     (member_place s span w.name ((piece_of e.0).expression a v) (is_array_length a w.name s.typing))
 layer_law (ExprKind-F.Index e i) = λ h speech a v xs span c place speaks clean pure.
@@ -277,15 +323,19 @@ layer_law (ExprKind-F.Not e) = λ h speech a v xs span c place speaks clean pure
     other_part (λ need k. let two = typed_if_wanted _ Truth need refl k in (f.goes Truth two.0, two.1))
 layer_law (ExprKind-F.Minus e) = λ h speech a v xs span c place speaks clean pure.
     let f = e.1 h speech a v xs c (Exactly Int) place speaks clean pure in
-    other_part (λ need k. let two = typed_if_wanted _ Int need refl k in negation_law h speech xs (piece_of e.0).written span ((piece_of e.0).expression a v) need (f.goes Int two.0) two.1)
+    other_part (λ need k. let two = typed_if_wanted _ Int need refl k in
+    negation_law h speech xs (piece_of e.0).written span ((piece_of e.0).expression a v) need (f.goes Int two.0) two.1)
 layer_law (ExprKind-F.Binary o x y) = λ h speech a v xs span c place speaks clean pure.
     let both = and_parts _ _ pure in
     let f = x.1 h speech a v xs (typing.under_left o c) (typing.need_of_operator o) place (speaks_left o speaks) clean.0 both.0 in
-    let g = y.1 h speech a v xs (typing.under_right o c) (typing.need_of_operator o) place (speaks_right o speaks) clean.1 both.1 in
-    other_part (operation_law h speech xs o span ((piece_of x.0).expression a v) ((piece_of y.0).expression a v) (typing_in (piece_of x.0).part a v) (typing_in (piece_of y.0).part a v) f.goes g.goes)
+    let g =
+    y.1 h speech a v xs (typing.under_right o c) (typing.need_of_operator o) place (speaks_right o speaks) clean.1 both.1 in
+    other_part (operation_law h speech xs o span ((piece_of x.0).expression a v) ((piece_of y.0).expression a v)
+    (typing_in (piece_of x.0).part a v) (typing_in (piece_of y.0).part a v) f.goes g.goes)
 layer_law (ExprKind-F.Old e) = λ h speech a v xs span c place speaks clean pure.
     let f = e.1 h speech a v xs (typing.purely c) Anything place (speaks_purely speaks) clean.0 pure in
-    let allowed : c.old ≡ true = old_allowed c.old (names_local (piece_of e.0).part a v) (if_fails _ rule.OldPlace span clean.1) in
+    let allowed : c.old ≡ true =
+    old_allowed c.old (names_local (piece_of e.0).part a v) (if_fails _ rule.OldPlace span clean.1) in
     other_part (λ need k. (speaks.old allowed, f.goes need (old_wanted (typing_in (piece_of e.0).part a v) need k)))
 layer_law (ExprKind-F.Perm e part whole amount) = λ h speech a v xs span c place speaks clean pure. never pure
 layer_law (ExprKind-F.Token t e) = λ h speech a v xs span c place speaks clean pure. never pure
@@ -293,8 +343,10 @@ layer_law (ExprKind-F.Instance None w es) = λ h speech a v xs span c place spea
 layer_law (ExprKind-F.Instance (Some e) w es) = λ h speech a v xs span c place speaks clean pure. never pure
 layer_law (ExprKind-F.Each q) = λ h speech a v xs span c place speaks clean pure. never (sym (q.1 0) ∙ pure)
 
-kind_step : (x : ExprKind-F ExprKind Each Expr) (y : ExprKind-F Kinds Eaches Exprs) → without y ≡ x → KindLaw (piece_of_kind (roll-ExprKind x))
-kind_step x y is = subst KindLaw (sym (kind_at_roll x)) (subst (λ (z : ExprKind-F ExprKind Each Expr). LayerLaw (layer_of z)) is (layer_law y))
+kind_step : (x : ExprKind-F ExprKind Each Expr) (y : ExprKind-F Kinds Eaches Exprs) → without y ≡ x
+    → KindLaw (piece_of_kind (roll-ExprKind x))
+kind_step x y is =
+    subst KindLaw (sym (kind_at_roll x)) (subst (λ (z : ExprKind-F ExprKind Each Expr). LayerLaw (layer_of z)) is (layer_law y))
 
 pub each_step : (x : Each-F ExprKind Each Expr) → EachLaw (piece_of_each (roll-Each x))
 each_step x = subst EachLaw (sym (each_at_roll x)) (λ n. refl)
@@ -302,11 +354,15 @@ each_step x = subst EachLaw (sym (each_at_roll x)) (λ n. refl)
 expr_law : (span : Span) (k : KindPiece) → KindLaw k → ExprLaw (piece_in_expr (record { span = span; kind = k }))
 expr_law span k law = λ h speech a v xs c need place speaks clean pure. law h speech a v xs span c place speaks clean.0 pure
 
-expr_step : (x : Expr-F ExprKind Each Expr) (y : Expr-F Kinds Eaches Exprs) → map-Expr Kinds Eaches Exprs ExprKind Each Expr (λ e. e.0) (λ e. e.0) (λ e. e.0) y ≡ x → ExprLaw (piece_of (roll-Expr x))
+expr_step : (x : Expr-F ExprKind Each Expr) (y : Expr-F Kinds Eaches Exprs)
+    → map-Expr Kinds Eaches Exprs ExprKind Each Expr (λ e. e.0) (λ e. e.0) (λ e. e.0) y ≡ x → ExprLaw (piece_of (roll-Expr x))
 expr_step x y is =
     subst ExprLaw (sym (expr_at_roll x))
-    (subst (λ (z : Expr-F ExprKind Each Expr). ExprLaw (piece_in_expr (map-Expr ExprKind Each Expr KindPiece EachPiece Piece piece_of_kind piece_of_each piece_of z))) is
+    (subst (λ (z : Expr-F ExprKind Each Expr). ExprLaw
+    (piece_in_expr (map-Expr ExprKind Each Expr KindPiece EachPiece Piece piece_of_kind piece_of_each piece_of z))) is
     (expr_law y.span (piece_of_kind y.kind.0) y.kind.1))
 
 pub expression_law : (e : Expr) → ExprLaw (piece_of e)
-expression_law = ind-Expr (λ k. KindLaw (piece_of_kind k)) (λ q. EachLaw (piece_of_each q)) (λ e. ExprLaw (piece_of e)) kind_step (λ x y is. each_step x) expr_step
+expression_law =
+    ind-Expr (λ k. KindLaw (piece_of_kind k)) (λ q. EachLaw (piece_of_each q)) (λ e. ExprLaw (piece_of e)) kind_step
+    (λ x y is. each_step x) expr_step

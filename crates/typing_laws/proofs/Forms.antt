@@ -40,8 +40,10 @@ IsAccess _ = ⊥
 -- what forms say: a position is its variable, what fixes one is an equality of it, an element is one; purity hangs on no variable
 pub record Shows (seen : Around → Visible → Seen) (expression : Around → Visible → Expression) (facts : ℕ → Facts) : Type 0 where
   pub same : (m n : ℕ) → (facts m).pure ≡ (facts n).pure
-  pub position : (a : Around) (v : Visible) (name : Name) → IsPosition v name → is_variable (facts name.0).form ≡ true → (expression a v ≡ core.Variable name) × ((seen a v).typing ≡ Typed Int)
-  pub fixing : (a : Around) (v : Visible) (name : Name) → IsPosition v name → is_fixing (facts name.0).form ≡ true → (y : Expression) × (expression a v ≡ core.Equal true (core.Variable name) y)
+  pub position : (a : Around) (v : Visible) (name : Name) → IsPosition v name → is_variable (facts name.0).form ≡ true
+      → (expression a v ≡ core.Variable name) × ((seen a v).typing ≡ Typed Int)
+  pub fixing : (a : Around) (v : Visible) (name : Name) → IsPosition v name → is_fixing (facts name.0).form ≡ true
+      → (y : Expression) × (expression a v ≡ core.Equal true (core.Variable name) y)
   pub access : (a : Around) (v : Visible) (n : ℕ) → is_element (facts n).form ≡ true → IsAccess (expression a v)
 
 abbrev pub KindLaw : KindPiece → Type 0
@@ -69,7 +71,8 @@ Exprs = (e : Expr) × ExprLaw (piece_of e)
 abbrev without : ExprKind-F Kinds Eaches Exprs → ExprKind-F ExprKind Each Expr
 without = map-ExprKind Kinds Eaches Exprs ExprKind Each Expr (λ e. e.0) (λ e. e.0) (λ e. e.0)
 
-plain : {seen : Around → Visible → Seen} {expression : Around → Visible → Expression} {facts : ℕ → Facts} → ((m n : ℕ) → (facts m).pure ≡ (facts n).pure) → ((n : ℕ) → IsPlain (facts n).form) → Shows seen expression facts
+plain : {seen : Around → Visible → Seen} {expression : Around → Visible → Expression} {facts : ℕ → Facts}
+    → ((m n : ℕ) → (facts m).pure ≡ (facts n).pure) → ((n : ℕ) → IsPlain (facts n).form) → Shows seen expression facts
 plain {facts = facts} same forms = record {
   same = same;
   position = λ a v name p k. absurd (both_ways (is_variable (facts name.0).form) (forms name.0).0 k);
@@ -87,14 +90,19 @@ variable_form : (b : Bool) → (is_fixing (facts_of_variable b).form ≡ false) 
 variable_form true = (refl, refl)
 variable_form false = (refl, refl)
 
-number_named : (a : Around) (span : Span) (name : Name) (o : Option Declared) → type_of o ≡ Some Int → (named a span name o ≡ core.Variable name) × ((seen_of_name a name o).typing ≡ Typed Int)
+number_named : (a : Around) (span : Span) (name : Name) (o : Option Declared) → type_of o ≡ Some Int
+    → (named a span name o ≡ core.Variable name) × ((seen_of_name a name o).typing ≡ Typed Int)
 number_named a span name None k = absurd cc
 number_named a span name (Some d) k = let same : d.kind ≡ Int = cc in (refl, ap Typed same)
 
-position_named : (a : Around) (v : Visible) (span : Span) (own name : Name) (b : Bool) → nat_eq own.0 name.0 ≡ b → IsPosition v name → is_variable (facts_of_variable b).form ≡ true
-    → (named a span own (variable_named v own) ≡ core.Variable name) × ((seen_of_name a own (variable_named v own)).typing ≡ Typed Int)
+position_named : (a : Around) (v : Visible) (span : Span) (own name : Name) (b : Bool) → nat_eq own.0 name.0 ≡ b
+    → IsPosition v name → is_variable (facts_of_variable b).form ≡ true
+    → (named a span own (variable_named v own) ≡ core.Variable name)
+    × ((seen_of_name a own (variable_named v own)).typing ≡ Typed Int)
 position_named a v span own name true is p k =
-    subst (λ (n : Name). (named a span n (variable_named v n) ≡ core.Variable name) × ((seen_of_name a n (variable_named v n)).typing ≡ Typed Int)) (sym (same_name own name is)) (number_named a span name (variable_named v name) p)
+    subst (λ (n : Name). (named a span n (variable_named v n) ≡ core.Variable name)
+    × ((seen_of_name a n (variable_named v n)).typing ≡ Typed Int)) (sym (same_name own name is))
+    (number_named a span name (variable_named v name) p)
 position_named a v span own name false is p k = absurd cc
 
 -- Operators
@@ -113,19 +121,23 @@ guard_plain : (b : Bool) → IsPlain (form_if b guard)
 guard_plain true = (refl, refl, refl)
 guard_plain false = (refl, refl, refl)
 
-fixing_form : (b : Bool) → (is_variable (form_if b fixing) ≡ false) × (is_element (form_if b fixing) ≡ false) × (is_fixing (form_if b fixing) ≡ b)
+fixing_form : (b : Bool) → (is_variable (form_if b fixing) ≡ false) × (is_element (form_if b fixing) ≡ false)
+    × (is_fixing (form_if b fixing) ≡ b)
 fixing_form true = (refl, refl, refl)
 fixing_form false = (refl, refl, refl)
 
-index_form : (b : Bool) (o : Option ℤ) → (is_variable (if b then element_at o else other) ≡ false) × (is_fixing (if b then element_at o else other) ≡ false)
+index_form : (b : Bool) (o : Option ℤ) → (is_variable (if b then element_at o else other) ≡ false)
+    × (is_fixing (if b then element_at o else other) ≡ false)
 index_form true None = (refl, refl)
 index_form true (Some s) = (refl, refl)
 index_form false o = (refl, refl)
 
-both_same : (f g : ℕ → Facts) → ((m n : ℕ) → (f m).pure ≡ (f n).pure) → ((m n : ℕ) → (g m).pure ≡ (g n).pure) → (m n : ℕ) → ((f m).pure && (g m).pure) ≡ ((f n).pure && (g n).pure)
+both_same : (f g : ℕ → Facts) → ((m n : ℕ) → (f m).pure ≡ (f n).pure) → ((m n : ℕ) → (g m).pure ≡ (g n).pure) → (m n : ℕ)
+    → ((f m).pure && (g m).pure) ≡ ((f n).pure && (g n).pure)
 both_same f g h k m n = ap (λ b. b && (g m).pure) (h m n) ∙ ap (λ b. (f n).pure && b) (k m n)
 
-compared_variable : (name : Name) (b : Bool) → (if b then plainly (core.Variable name) else core.Variable name) ≡ core.Variable name
+compared_variable : (name : Name) (b : Bool) → (if b then plainly (core.Variable name) else core.Variable name)
+    ≡ core.Variable name
 compared_variable name true = refl
 compared_variable name false = refl
 
@@ -135,21 +147,27 @@ LayerLaw l = KindLaw (piece_in_kind l)
 equality_shown : (x y : Piece) → ExprLaw x → ExprLaw y → LayerLaw (ExprKind-F.Binary op.Eq x y)
 equality_shown x y h k = λ span. record {
   same = both_same x.shape.facts y.shape.facts h.same k.same;
-  position = λ a v name p i. absurd (both_ways _ (fixing_form (is_variable_and_term (x.shape.facts name.0) (y.shape.facts name.0))).0 i);
+  position =
+      λ a v name p i. absurd (both_ways _ (fixing_form (is_variable_and_term (x.shape.facts name.0) (y.shape.facts name.0))).0 i);
   fixing = λ a v name p i.
       let first : is_variable (x.shape.facts name.0).form ≡ true =
       (and_parts _ _ (sym (fixing_form (is_variable_and_term (x.shape.facts name.0) (y.shape.facts name.0))).2 ∙ i)).0 in (
         compared (x.expression a v) (y.expression a v),
         ap (λ e. core.Equal true e (compared (x.expression a v) (y.expression a v)))
-            (ap (compared (y.expression a v)) (h.position a v name p first).0 ∙ compared_variable name (is_literal (y.expression a v))),
+            (ap (compared (y.expression a v)) (h.position a v name p first).0
+            ∙ compared_variable name (is_literal (y.expression a v))),
       );
   access = λ a v n i. absurd (both_ways _ (fixing_form (is_variable_and_term (x.shape.facts n) (y.shape.facts n))).1 i);
 }
 
 operator_shown : (o : Operator) (x y : Piece) → ExprLaw x → ExprLaw y → LayerLaw (ExprKind-F.Binary o x y)
 operator_shown op.Eq x y h k = equality_shown x y h k
-operator_shown op.Add x y h k = λ span. plain (both_same x.shape.facts y.shape.facts h.same k.same) (λ n. raised_plain (is_variable (x.shape.facts n).form) (literal_of (y.shape.facts n).form))
-operator_shown op.Sub x y h k = λ span. plain (both_same x.shape.facts y.shape.facts h.same k.same) (λ n. lowered_plain (is_variable (x.shape.facts n).form) (literal_of (y.shape.facts n).form))
+operator_shown op.Add x y h k =
+    λ span. plain (both_same x.shape.facts y.shape.facts h.same k.same)
+    (λ n. raised_plain (is_variable (x.shape.facts n).form) (literal_of (y.shape.facts n).form))
+operator_shown op.Sub x y h k =
+    λ span. plain (both_same x.shape.facts y.shape.facts h.same k.same)
+    (λ n. lowered_plain (is_variable (x.shape.facts n).form) (literal_of (y.shape.facts n).form))
 operator_shown op.Mul x y h k = λ span. plain (both_same x.shape.facts y.shape.facts h.same k.same) (λ n. (refl, refl, refl))
 operator_shown op.Ne x y h k = λ span. plain (both_same x.shape.facts y.shape.facts h.same k.same) (λ n. (refl, refl, refl))
 operator_shown op.Lt x y h k = λ span. plain (both_same x.shape.facts y.shape.facts h.same k.same) (λ n. guard_plain _)
@@ -192,20 +210,27 @@ layer_law (ExprKind-F.Instance None w es) = λ span. plain (λ m n. refl) (λ n.
 layer_law (ExprKind-F.Instance (Some e) w es) = λ span. plain (λ m n. refl) (λ n. (refl, refl, refl))
 layer_law (ExprKind-F.Each q) = λ span. plain (λ m n. (q.1 m).0 ∙ sym (q.1 n).0) (λ n. (q.1 n).1)
 
-kind_step : (x : ExprKind-F ExprKind Each Expr) (y : ExprKind-F Kinds Eaches Exprs) → without y ≡ x → KindLaw (piece_of_kind (roll-ExprKind x))
-kind_step x y is = subst KindLaw (sym (kind_at_roll x)) (subst (λ (z : ExprKind-F ExprKind Each Expr). LayerLaw (layer_of z)) is (layer_law y))
+kind_step : (x : ExprKind-F ExprKind Each Expr) (y : ExprKind-F Kinds Eaches Exprs) → without y ≡ x
+    → KindLaw (piece_of_kind (roll-ExprKind x))
+kind_step x y is =
+    subst KindLaw (sym (kind_at_roll x)) (subst (λ (z : ExprKind-F ExprKind Each Expr). LayerLaw (layer_of z)) is (layer_law y))
 
 each_step : (x : Each-F ExprKind Each Expr) → EachLaw (piece_of_each (roll-Each x))
 each_step x = subst EachLaw (sym (each_at_roll x)) (λ n. (refl, (refl, refl, refl)))
 
 expr_law : (span : Span) (k : KindPiece) → KindLaw k → ExprLaw (piece_in_expr (record { span = span; kind = k }))
-expr_law span k law = record { same = (law span).same; position = (law span).position; fixing = (law span).fixing; access = (law span).access }
+expr_law span k law =
+    record { same = (law span).same; position = (law span).position; fixing = (law span).fixing; access = (law span).access }
 
-expr_step : (x : Expr-F ExprKind Each Expr) (y : Expr-F Kinds Eaches Exprs) → map-Expr Kinds Eaches Exprs ExprKind Each Expr (λ e. e.0) (λ e. e.0) (λ e. e.0) y ≡ x → ExprLaw (piece_of (roll-Expr x))
+expr_step : (x : Expr-F ExprKind Each Expr) (y : Expr-F Kinds Eaches Exprs)
+    → map-Expr Kinds Eaches Exprs ExprKind Each Expr (λ e. e.0) (λ e. e.0) (λ e. e.0) y ≡ x → ExprLaw (piece_of (roll-Expr x))
 expr_step x y is =
     subst ExprLaw (sym (expr_at_roll x))
-    (subst (λ (z : Expr-F ExprKind Each Expr). ExprLaw (piece_in_expr (map-Expr ExprKind Each Expr KindPiece EachPiece Piece piece_of_kind piece_of_each piece_of z))) is
+    (subst (λ (z : Expr-F ExprKind Each Expr). ExprLaw
+    (piece_in_expr (map-Expr ExprKind Each Expr KindPiece EachPiece Piece piece_of_kind piece_of_each piece_of z))) is
     (expr_law y.span (piece_of_kind y.kind.0) y.kind.1))
 
 pub shown : (e : Expr) → ExprLaw (piece_of e)
-shown = ind-Expr (λ k. KindLaw (piece_of_kind k)) (λ q. EachLaw (piece_of_each q)) (λ e. ExprLaw (piece_of e)) kind_step (λ x y is. each_step x) expr_step
+shown =
+    ind-Expr (λ k. KindLaw (piece_of_kind k)) (λ q. EachLaw (piece_of_each q)) (λ e. ExprLaw (piece_of e)) kind_step
+    (λ x y is. each_step x) expr_step

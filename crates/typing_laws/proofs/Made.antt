@@ -22,7 +22,7 @@ use Rattle.pv_meaning.specs.Core as core
 use Rattle.pv_picks.specs.Pieces.{Piece, KindPiece, EachPiece, Layer, piece_in_kind, piece_of, piece_of_kind, piece_of_each, conjunct, alone}
 use Rattle.pv_picks.proofs.Clean.{Clean}
 use Rattle.typed_programs.specs.Expressions.{Home, Speech, Says}
-use Rattle.typing_laws.specs.Formulas.{FormulaFits, ItemsFit, ItemFits}
+use Rattle.typing_laws.proofs.Within.{FormulaWithin, ItemsWithin, ItemWithin}
 use Rattle.typing_laws.proofs.Places.{Place, Speaks}
 use Rattle.typing_laws.proofs.Forms.{IsPosition, shown}
 use Rattle.typing_laws.proofs.Purity.{meets_at, other_int, typed, solid_pure}
@@ -30,46 +30,65 @@ use Rattle.typing_laws.proofs.Expressions.{expression_law}
 use Rattle.typing_laws.proofs.Parts.{formula_if}
 
 -- an expression where a truth value is needed: it has that type, and goes there where it is pure, which hangs on no variable
-pub record Ready (h : Home) (speech : Speech) (xs : List core.Parameter) (facts : ℕ → Facts) (s : Seen) (e : Expression) : Type 0 where
+pub record Ready (h : Home) (speech : Speech) (xs : List core.Parameter) (facts : ℕ → Facts) (s : Seen)
+    (e : Expression) : Type 0 where
   pub typed : typing.meets (Exactly Truth) s.typing ≡ true
   pub says : (facts 0).pure ≡ true → Says h speech xs e Truth
   pub same : (n : ℕ) → (facts n).pure ≡ true → (facts 0).pure ≡ true
 
--- where an expression may be a formula: where it is pure, no quantifier in it is misplaced, it is an item for a position, or made of items
-pub data IsRight : Visible → (ℕ → Facts) → List ShapeFault → (ℕ → Option items.Item) → (Whole → ℕ → List ShapeFault) → Type 0 where
-  is_pure : {v : Visible} {facts : ℕ → Facts} {faults : List ShapeFault} {item_of : ℕ → Option items.Item} {parts_of : Whole → ℕ → List ShapeFault} → (facts 0).pure ≡ true → IsRight v facts faults item_of parts_of
-  no_fault : {v : Visible} {facts : ℕ → Facts} {faults : List ShapeFault} {item_of : ℕ → Option items.Item} {parts_of : Whole → ℕ → List ShapeFault} → faults ≡ [] → IsRight v facts faults item_of parts_of
-  one_item : {v : Visible} {facts : ℕ → Facts} {faults : List ShapeFault} {item_of : ℕ → Option items.Item} {parts_of : Whole → ℕ → List ShapeFault}
+-- where an expression may be a formula: where it is pure, no quantifier in it is misplaced, it is an item for a position, or made
+-- of items
+pub data IsRight : Visible → (ℕ → Facts) → List ShapeFault → (ℕ → Option items.Item) → (Whole → ℕ → List ShapeFault)
+    → Type 0 where
+  is_pure : {v : Visible} {facts : ℕ → Facts} {faults : List ShapeFault} {item_of : ℕ → Option items.Item}
+      {parts_of : Whole → ℕ → List ShapeFault} → (facts 0).pure ≡ true → IsRight v facts faults item_of parts_of
+  no_fault : {v : Visible} {facts : ℕ → Facts} {faults : List ShapeFault} {item_of : ℕ → Option items.Item}
+      {parts_of : Whole → ℕ → List ShapeFault} → faults ≡ [] → IsRight v facts faults item_of parts_of
+  one_item : {v : Visible} {facts : ℕ → Facts} {faults : List ShapeFault} {item_of : ℕ → Option items.Item}
+      {parts_of : Whole → ℕ → List ShapeFault}
       → (name : Name) → IsPosition v name → is_some (item_of name.0) ≡ true → IsRight v facts faults item_of parts_of
-  all_items : {v : Visible} {facts : ℕ → Facts} {faults : List ShapeFault} {item_of : ℕ → Option items.Item} {parts_of : Whole → ℕ → List ShapeFault}
+  all_items : {v : Visible} {facts : ℕ → Facts} {faults : List ShapeFault} {item_of : ℕ → Option items.Item}
+      {parts_of : Whole → ℕ → List ShapeFault}
       → (name : Name) → IsPosition v name → (whole : Whole) → parts_of whole name.0 ≡ [] → IsRight v facts faults item_of parts_of
 
 -- what it becomes: as a formula where it may be one, as items where it is made of them, and as an item where it is one
-pub record Made (h : Home) (speech : Speech) (v : Visible) (xs : List core.Parameter) (facts : ℕ → Facts) (faults : List ShapeFault) (item_of : ℕ → Option items.Item) (parts_of : Whole → ℕ → List ShapeFault)
-    (formula_at : Option Span → Formula) (items_at : Name → Option Span → Items) (item_at : Name → Option Span → Item) : Type 0 where
-  pub formula : IsRight v facts faults item_of parts_of → (around : Option Span) → FormulaFits h speech xs (formula_at around)
-  pub items : (name : Name) → IsPosition v name → (whole : Whole) → ((facts 0).pure ≡ true) ⊎ (parts_of whole name.0 ≡ []) → (around : Option Span) → ItemsFit h speech xs (items_at name around)
-  pub item : (name : Name) → IsPosition v name → ((facts 0).pure ≡ true) ⊎ (is_some (item_of name.0) ≡ true) → (around : Option Span) → ItemFits h speech xs (item_at name around)
+pub record Made (h : Home) (speech : Speech) (v : Visible) (xs : List core.Parameter) (facts : ℕ → Facts)
+    (faults : List ShapeFault) (item_of : ℕ → Option items.Item) (parts_of : Whole → ℕ → List ShapeFault)
+    (formula_at : Option Span → Formula) (items_at : Name → Option Span → Items)
+    (item_at : Name → Option Span → Item) : Type 0 where
+  pub formula : IsRight v facts faults item_of parts_of → (around : Option Span) → FormulaWithin h speech xs (formula_at around)
+  pub items : (name : Name) → IsPosition v name → (whole : Whole) → ((facts 0).pure ≡ true) ⊎ (parts_of whole name.0 ≡ [])
+      → (around : Option Span) → ItemsWithin h speech xs (items_at name around)
+  pub item : (name : Name) → IsPosition v name → ((facts 0).pure ≡ true) ⊎ (is_some (item_of name.0) ≡ true)
+      → (around : Option Span) → ItemWithin h speech xs (item_at name around)
 
 -- The laws of a kind, of a quantifier and of an expression
 
 abbrev pub KindLaw : KindPiece → Type 0
-KindLaw k = (h : Home) (speech : Speech) (a : Around) (v : Visible) (xs : List core.Parameter) (span : Span) (c : Context) → Place h a v xs → Speaks speech a c → Clean (k.part.faults span a v c)
+KindLaw k = (h : Home) (speech : Speech) (a : Around) (v : Visible) (xs : List core.Parameter) (span : Span) (c : Context)
+    → Place h a v xs → Speaks speech a c → Clean (k.part.faults span a v c)
     → Ready h speech xs k.shape.facts (k.part.seen a v) (k.expression span a v)
-    → Made h speech v xs k.shape.facts (k.shape.faults span) k.shape.item (k.shape.parts span) (λ around. k.formula span around a v) (λ name around. k.items span name around a v) (λ name around. k.item span name around a v)
+    → Made h speech v xs k.shape.facts (k.shape.faults span) k.shape.item (k.shape.parts span)
+    (λ around. k.formula span around a v) (λ name around. k.items span name around a v)
+    (λ name around. k.item span name around a v)
 
 abbrev pub EachLaw : EachPiece → Type 0
 EachLaw q = ((n : ℕ) → (q.shape.facts n).pure ≡ false)
-    × ((h : Home) (speech : Speech) (a : Around) (v : Visible) (xs : List core.Parameter) (span : Span) (c : Context) → Place h a v xs → Speaks speech a c → Clean (q.part.faults span a v c) → q.shape.faults ≡ []
-    → (around : Span) → FormulaFits h speech xs (q.formula around a v))
+    × ((h : Home) (speech : Speech) (a : Around) (v : Visible) (xs : List core.Parameter) (span : Span) (c : Context)
+    → Place h a v xs → Speaks speech a c → Clean (q.part.faults span a v c) → q.shape.faults ≡ []
+    → (around : Span) → FormulaWithin h speech xs (q.formula around a v))
 
 abbrev pub ExprLaw : Piece → Type 0
-ExprLaw p = (h : Home) (speech : Speech) (a : Around) (v : Visible) (xs : List core.Parameter) (c : Context) → Place h a v xs → Speaks speech a c → Clean (p.part.faults a v c (Exactly Truth))
+ExprLaw p = (h : Home) (speech : Speech) (a : Around) (v : Visible) (xs : List core.Parameter) (c : Context) → Place h a v xs
+    → Speaks speech a c → Clean (p.part.faults a v c (Exactly Truth))
     → Ready h speech xs p.shape.facts (p.part.seen a v) (p.expression a v)
-    → Made h speech v xs p.shape.facts p.shape.faults p.shape.item p.shape.parts (λ around. p.formula around a v) (λ name around. p.items name around a v) (λ name around. p.item name around a v)
+    → Made h speech v xs p.shape.facts p.shape.faults p.shape.item p.shape.parts (λ around. p.formula around a v)
+    (λ name around. p.items name around a v) (λ name around. p.item name around a v)
 
 abbrev pub PieceMade : Home → Speech → Around → Visible → List core.Parameter → Piece → Type 0
-PieceMade h speech a v xs p = Made h speech v xs p.shape.facts p.shape.faults p.shape.item p.shape.parts (λ around. p.formula around a v) (λ name around. p.items name around a v) (λ name around. p.item name around a v)
+PieceMade h speech a v xs p =
+    Made h speech v xs p.shape.facts p.shape.faults p.shape.item p.shape.parts (λ around. p.formula around a v)
+    (λ name around. p.items name around a v) (λ name around. p.item name around a v)
 
 abbrev pub Kinds : Type 0
 Kinds = (k : ExprKind) × KindLaw (piece_of_kind k)
@@ -86,24 +105,31 @@ without = map-ExprKind Kinds Eaches Exprs ExprKind Each Expr (λ e. e.0) (λ e. 
 abbrev pub LayerLaw : Layer → Type 0
 LayerLaw l = KindLaw (piece_in_kind l)
 
-pub ready_at : (e : Expr) (h : Home) (speech : Speech) (a : Around) (v : Visible) (xs : List core.Parameter) (c : Context) → Place h a v xs → Speaks speech a c → Clean ((piece_of e).part.faults a v c (Exactly Truth))
+pub ready_at : (e : Expr) (h : Home) (speech : Speech) (a : Around) (v : Visible) (xs : List core.Parameter) (c : Context)
+    → Place h a v xs → Speaks speech a c → Clean ((piece_of e).part.faults a v c (Exactly Truth))
     → Ready h speech xs (piece_of e).shape.facts ((piece_of e).part.seen a v) ((piece_of e).expression a v)
 ready_at e h speech a v xs c place speaks clean = record {
   typed = meets_at e h a v xs c (Exactly Truth) place clean;
-  says = λ pure. (expression_law e h speech a v xs c (Exactly Truth) place speaks clean pure).goes Truth (meets_at e h a v xs c (Exactly Truth) place clean);
+  says =
+      λ pure. (expression_law e h speech a v xs c (Exactly Truth) place speaks clean pure).goes Truth
+      (meets_at e h a v xs c (Exactly Truth) place clean);
   same = λ n k. (shown e).same 0 n ∙ k;
 }
 
-pub made_at : (e : Exprs) (h : Home) (speech : Speech) (a : Around) (v : Visible) (xs : List core.Parameter) (c : Context) → Place h a v xs → Speaks speech a c → Clean ((piece_of e.0).part.faults a v c (Exactly Truth))
+pub made_at : (e : Exprs) (h : Home) (speech : Speech) (a : Around) (v : Visible) (xs : List core.Parameter) (c : Context)
+    → Place h a v xs → Speaks speech a c → Clean ((piece_of e.0).part.faults a v c (Exactly Truth))
     → PieceMade h speech a v xs (piece_of e.0)
-made_at e h speech a v xs c place speaks clean = e.1 h speech a v xs c place speaks clean (ready_at e.0 h speech a v xs c place speaks clean)
+made_at e h speech a v xs c place speaks clean =
+    e.1 h speech a v xs c place speaks clean (ready_at e.0 h speech a v xs c place speaks clean)
 
 -- a number
-pub number_goes : (e : Expr) (h : Home) (speech : Speech) (a : Around) (v : Visible) (xs : List core.Parameter) (c : Context) → Place h a v xs → Speaks speech a c → Clean ((piece_of e).part.faults a v c (Exactly Int))
+pub number_goes : (e : Expr) (h : Home) (speech : Speech) (a : Around) (v : Visible) (xs : List core.Parameter) (c : Context)
+    → Place h a v xs → Speaks speech a c → Clean ((piece_of e).part.faults a v c (Exactly Int))
     → Says h speech xs ((piece_of e).expression a v) Int
 number_goes e h speech a v xs c place speaks clean =
     let m = meets_at e h a v xs c (Exactly Int) place clean in
-    (expression_law e h speech a v xs c (Exactly Int) place speaks clean (solid_pure e h a v xs c (Exactly Int) place clean (typed (other_int _ m)))).goes Int m
+    (expression_law e h speech a v xs c (Exactly Int) place speaks clean
+    (solid_pure e h a v xs c (Exactly Int) place clean (typed (other_int _ m)))).goes Int m
 
 -- Shapes
 
@@ -120,7 +146,8 @@ is_item star_body item truth f k = none_unless item f k
 is_item truth_body item truth f k = (and_parts item truth (none_unless (item && truth) f k)).0
 is_item clause item truth f k = none_unless item f k
 
-pub pure_or : (b : Bool) (u : Use) (o : Option items.Item) → is_some (or_else (if b then item_of_use u else None) o) ≡ true → (b ≡ true) ⊎ (is_some o ≡ true)
+pub pure_or : (b : Bool) (u : Use) (o : Option items.Item) → is_some (or_else (if b then item_of_use u else None) o) ≡ true
+    → (b ≡ true) ⊎ (is_some o ≡ true)
 pure_or true u o k = inl refl
 pure_or false u o k = inr k
 
@@ -131,7 +158,8 @@ pub right_of : {B : Type 0} → (false ≡ true) ⊎ B → B
 right_of (inl k) = no_item k
 right_of (inr k) = k
 
-pub item_or : {A : Type 0} (item : Bool) (whole : Whole) (truth : Bool) (f : ShapeFault) → A ⊎ (fault_unless (is_part whole item truth) f ≡ []) → A ⊎ (item ≡ true)
+pub item_or : {A : Type 0} (item : Bool) (whole : Whole) (truth : Bool) (f : ShapeFault) → A
+    ⊎ (fault_unless (is_part whole item truth) f ≡ []) → A ⊎ (item ≡ true)
 item_or item whole truth f (inl i) = inl i
 item_or item whole truth f (inr i) = inr (is_item whole item truth f i)
 
@@ -141,10 +169,14 @@ abbrev pub PureItem : (ℕ → Facts) → (ℕ → Option items.Item) → ℕ �
 PureItem facts others n = or_else (item_of_pure (facts n)) (others n)
 
 abbrev pub PartFault : Span → (ℕ → Facts) → (ℕ → Option items.Item) → Whole → ℕ → List ShapeFault
-PartFault span facts others whole n = fault_unless (is_part whole (is_some (PureItem facts others n)) (facts n).truth) (fault_at whole span)
+PartFault span facts others whole n =
+    fault_unless (is_part whole (is_some (PureItem facts others n)) (facts n).truth) (fault_at whole span)
 
-pub fact_made : {h : Home} {speech : Speech} {v : Visible} {xs : List core.Parameter} (facts : ℕ → Facts) {s : Seen} {e : Expression} (span : Span) (faults : List ShapeFault) → Ready h speech xs facts s e → (faults ≡ [] → (facts 0).pure ≡ true)
-    → Made h speech v xs facts faults (PureItem facts (λ n. None)) (PartFault span facts (λ n. None)) (λ around. core.Fact e (conjunct around span)) (λ name around. alone (core.Repeated e (conjunct around span)))
+pub fact_made : {h : Home} {speech : Speech} {v : Visible} {xs : List core.Parameter}
+    (facts : ℕ → Facts) {s : Seen} {e : Expression} (span : Span) (faults : List ShapeFault) → Ready h speech xs facts s e
+    → (faults ≡ [] → (facts 0).pure ≡ true)
+    → Made h speech v xs facts faults (PureItem facts (λ n. None)) (PartFault span facts (λ n. None))
+    (λ around. core.Fact e (conjunct around span)) (λ name around. alone (core.Repeated e (conjunct around span)))
     (λ name around. core.Repeated e (conjunct around span))
 fact_made {v = v} facts span faults ready clear = record {
   formula = λ premise around. ready.says (right premise);
@@ -167,24 +199,31 @@ fact_true true (Some s) k = refl
 fact_true false around k = absurd cc
 
 -- an operator that joins no formulas
-pub operation_made : {h : Home} {speech : Speech} {v : Visible} {xs : List core.Parameter} (facts : ℕ → Facts) (others : ℕ → Option items.Item) {s : Seen} {e : Expression} (span : Span) (faults : List ShapeFault) (g : Option Span → Formula)
-    → Ready h speech xs facts s e → (faults ≡ [] → (facts 0).pure ≡ true) → ((name : Name) → IsPosition v name → is_some (others name.0) ≡ true → (facts 0).pure ≡ true)
-    → Made h speech v xs facts faults (PureItem facts others) (PartFault span facts others) (λ around. if (facts 0).pure && (is_some around || true) then core.Fact e (conjunct around span) else g around)
+pub operation_made : {h : Home} {speech : Speech} {v : Visible} {xs : List core.Parameter} (facts : ℕ → Facts)
+    (others : ℕ → Option items.Item) {s : Seen} {e : Expression} (span : Span) (faults : List ShapeFault)
+    (g : Option Span → Formula)
+    → Ready h speech xs facts s e → (faults ≡ [] → (facts 0).pure ≡ true)
+    → ((name : Name) → IsPosition v name → is_some (others name.0) ≡ true → (facts 0).pure ≡ true)
+    → Made h speech v xs facts faults (PureItem facts others) (PartFault span facts others)
+    (λ around. if (facts 0).pure && (is_some around || true) then core.Fact e (conjunct around span) else g around)
     (λ name around. alone (core.Repeated e (conjunct around span))) (λ name around. core.Repeated e (conjunct around span))
 operation_made {h} {speech} {v} {xs} facts others {s} {e} span faults g ready clear of_item = record {
   formula = λ premise around.
       let pure : (facts 0).pure ≡ true = right premise in
-      formula_if h speech xs ((facts 0).pure && (is_some around || true)) _ _ (λ k. ready.says pure) (λ k. absurd (both_ways _ k (fact_true (facts 0).pure around pure)));
+      formula_if h speech xs ((facts 0).pure && (is_some around || true)) _ _ (λ k. ready.says pure)
+      (λ k. absurd (both_ways _ k (fact_true (facts 0).pure around pure)));
   items = λ name p whole premise around. (ready.says (either premise (λ k. by_item name p (is_item whole _ _ _ k))), tt);
   item = λ name p premise around. ready.says (either premise (by_item name p));
 }
   where
-    pure_first : (name : Name) → ((facts name.0).pure ≡ true) ⊎ (is_some (others name.0) ≡ true) → ((facts 0).pure ≡ true) ⊎ (is_some (others name.0) ≡ true)
+    pure_first : (name : Name) → ((facts name.0).pure ≡ true) ⊎ (is_some (others name.0) ≡ true) → ((facts 0).pure ≡ true)
+        ⊎ (is_some (others name.0) ≡ true)
     pure_first name (inl k) = inl (ready.same name.0 k)
     pure_first name (inr k) = inr k
 
     by_item : (name : Name) → IsPosition v name → is_some (PureItem facts others name.0) ≡ true → (facts 0).pure ≡ true
-    by_item name p k = either (pure_first name (pure_or (facts name.0).pure (facts name.0).uses (others name.0) k)) (of_item name p)
+    by_item name p k =
+        either (pure_first name (pure_or (facts name.0).pure (facts name.0).uses (others name.0) k)) (of_item name p)
 
     right : IsRight v facts faults (PureItem facts others) (PartFault span facts others) → (facts 0).pure ≡ true
     right (is_pure k) = k
@@ -194,9 +233,11 @@ operation_made {h} {speech} {v} {xs} facts others {s} {e} span faults g ready cl
 
 -- Instances and quantifiers: no items
 
-pub whole_made : {h : Home} {speech : Speech} {v : Visible} {xs : List core.Parameter} (facts : ℕ → Facts) (span : Span) (faults : List ShapeFault) (g : Option Span → Formula) (i : Name → Option Span → Item) → ((n : ℕ) → (facts n).pure ≡ false)
-    → (faults ≡ [] → (around : Option Span) → FormulaFits h speech xs (g around))
-    → Made h speech v xs facts faults (PureItem facts (λ n. None)) (PartFault span facts (λ n. None)) g (λ name around. alone (i name around)) i
+pub whole_made : {h : Home} {speech : Speech} {v : Visible} {xs : List core.Parameter} (facts : ℕ → Facts) (span : Span)
+    (faults : List ShapeFault) (g : Option Span → Formula) (i : Name → Option Span → Item) → ((n : ℕ) → (facts n).pure ≡ false)
+    → (faults ≡ [] → (around : Option Span) → FormulaWithin h speech xs (g around))
+    → Made h speech v xs facts faults (PureItem facts (λ n. None)) (PartFault span facts (λ n. None)) g
+    (λ name around. alone (i name around)) i
 whole_made {v = v} facts span faults g i never fits =
     record {
       formula = λ premise around. fits (right premise) around;

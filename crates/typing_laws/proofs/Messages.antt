@@ -1,5 +1,5 @@
 -- Messages of a counted loop: what its body sends is well typed at its head, and what it receives is sent.
-use Rattle.std.proofs.Common.{◌≡◌, ℕ, Bool, true, false, ◌||◌, Option, Some, None, List, [], ◌∷◌, ◌++◌, map, refl, sym, ◌∙◌, ap, subst}
+use Rattle.std.proofs.Common.{◌≡◌, ◌≤◌, ℕ, zero, suc, nat_eq, arith, Bool, true, false, ◌||◌, Option, Some, None, List, [], ◌∷◌, ◌++◌, map, refl, sym, ◌∙◌, ap, subst}
 use Rattle.std.proofs.lemmas.Bool.{both_ways}
 use Rattle.std.proofs.lemmas.List.{append_assoc, append-nil, map-append}
 use Rattle.std.specs.Prelude.{if◌then◌else◌}
@@ -19,7 +19,7 @@ use Rattle.pv_rules.specs.declared.fault.Rule.TheVariants as rule
 use Rattle.pv_rules.specs.declared.fault.ShapeFault.{ShapeFault}
 use Rattle.pv_rules.specs.declared.standing.Need.TheVariants.{Exactly}
 use Rattle.pv_rules.specs.declared.standing.Spot.{Spot}
-use Rattle.pv_rules.specs.Faults.{Faults}
+use Rattle.pv_rules.specs.Faults.{Faults, broken_if}
 use Rattle.pv_rules.specs.Lookup.{same_name}
 use Rattle.pv_rules.specs.Scoping.{Visible, is_visible}
 use Rattle.pv_rules.specs.Parts.{Around, part_of}
@@ -32,13 +32,15 @@ use Rattle.pv_picks.specs.Pieces.{core_of_formula}
 use Rattle.pv_picks.specs.Statements.{StmtPiece, StmtKindPiece, sent_in, message_of, piece_in_stmt_kind, piece_in_stmt, piece_of_stmt, piece_of_stmt_kind}
 use Rattle.pv_picks.proofs.Clean.{Clean, unless_holds, if_fails}
 use Rattle.pv_picks.proofs.Agreeing.{Agree, agree_local}
+use Rattle.pv_picks.proofs.ConfiningStmts.{both_confined}
 use Rattle.pv_picks.proofs.Heads.{at_head}
 use Rattle.pv_picks.proofs.StmtLayers.{layer_of, kind_at_roll, stmt_at_roll}
 use Rattle.typed_programs.specs.Expressions.{Home, silent}
-use Rattle.typing_laws.specs.Formulas.{FormulaFits}
+use Rattle.typing_laws.specs.Formulas.{FormulaFits, MessageFits}
 use Rattle.typing_laws.proofs.Places.{Speaks, says_nothing}
 use Rattle.typing_laws.proofs.Standing.{InLoop, AllFit}
-use Rattle.typing_laws.proofs.Formulas.{item_formula_fits}
+use Rattle.typing_laws.proofs.Formulas.{item_formula_within}
+use Rattle.typing_laws.proofs.Outside.{formula_outside}
 use Rattle.typing_laws.proofs.Expressions.{no_first, no_second}
 
 -- the name of a word is among the names
@@ -56,25 +58,46 @@ labels_of ms = map (λ m. m.label) ms
 pub between : (a : Around) → Speaks silent a between_members
 between a = says_nothing silent a between_members refl refl
 
-message_items : (o : Option ℕ) (e : Expr) (n : ℕ) → o ≡ Some n → shapes.faults_of_message o e ≡ [] → shapes.faults_of_items n e ≡ []
+-- it goes to another member
+pub some_way : (n : ℕ) (span : Span) → Clean (broken_if (nat_eq n 0) rule.MessageRule span) → 1 ≤ n
+some_way n span clean = positive n (if_fails (nat_eq n 0) rule.MessageRule span clean)
+  where
+    positive : (n : ℕ) → nat_eq n 0 ≡ false → 1 ≤ n
+    positive zero k = absurd cc
+    positive (suc n) k = omega arith
+
+message_items : (o : Option ℕ) (e : Expr) (n : ℕ) → o ≡ Some n → shapes.faults_of_message o e ≡ [] → shapes.faults_of_items n e
+    ≡ []
 message_items None e n is none = absurd cc
 message_items (Some m) e n is none = let same : m ≡ n = cc in subst (λ m. shapes.faults_of_items m e ≡ []) same none
 
-pub message_fits : (e : Expr) (h : Home) (a : Around) (v : Visible) (head : List core.Parameter) (there : Visible) (around : shapes.Around) → InLoop h a v head there around → Clean ((part_of e).faults a v between_members (Exactly Truth))
+pub message_fits : (e : Expr) (h : Home) (a : Around) (v : Visible) (head : List core.Parameter) (there : Visible)
+    (around : shapes.Around) → InLoop h a v head there around → Clean ((part_of e).faults a v between_members (Exactly Truth))
     → shapes.faults_of_message around.loop e ≡ [] → FormulaFits h silent head (core_of_formula a there e)
 message_fits e h a v head there around l clean none =
-    (item_formula_fits e l.position h silent a there head between_members (sym (l.place.listed l.position) ∙ l.number) l.place (between a)
-    (at_head e a v there between_members (Exactly Truth) l.agree refl clean).1 (message_items around.loop e l.position.0 l.loop none)).0
+    let there_clean = (at_head e a v there between_members (Exactly Truth) l.agree refl clean).1 in
+    let items = message_items around.loop e l.position.0 l.loop none in
+    formula_outside (core_of_formula a there e) h silent head
+    (both_confined e l.position a there between_members there_clean items).0
+    (item_formula_within e l.position h silent a there head between_members (sym (l.place.listed l.position) ∙ l.number) l.place
+    (between a)
+    there_clean items).0
 
-pub agreeing : {h : Home} {a : Around} {v after : Visible} {head : List core.Parameter} {there : Visible} {around : shapes.Around} → Agree after there → InLoop h a v head there around → InLoop h a after head there around
+pub agreeing : {h : Home} {a : Around} {v after : Visible} {head : List core.Parameter} {there : Visible} {around : shapes.Around}
+    → Agree after there → InLoop h a v head there around → InLoop h a after head there around
 agreeing agree l = record { position = l.position; loop = l.loop; number = l.number; place = l.place; agree = agree }
 
--- what a statement hears and sends: what was received before stays, and what it sends has the labels that it tells, and is well typed
-pub record Sends (messages : Messages → Messages) (behind : Visible → Visible) (faults : Around → Visible → Spot → Faults) (sent : Around → Visible → List Message) (shape : shapes.Around → List ShapeFault) : Type 0 where
-  pub grows : (names : List Name) (m : Messages) → AllByRecursion (IsAmong names) (messages m).received → AllByRecursion (IsAmong names) m.received
-  pub labels : (a : Around) (there : Visible) (m : Messages) → names_of (messages m).sent ≡ names_of m.sent ++ labels_of (sent a there)
+-- what a statement hears and sends: what was received before stays, and what it sends has the labels that it tells, and is well
+-- typed
+pub record Sends (messages : Messages → Messages) (behind : Visible → Visible) (faults : Around → Visible → Spot → Faults)
+    (sent : Around → Visible → List Message) (shape : shapes.Around → List ShapeFault) : Type 0 where
+  pub grows : (names : List Name) (m : Messages) → AllByRecursion (IsAmong names) (messages m).received
+      → AllByRecursion (IsAmong names) m.received
+  pub labels : (a : Around) (there : Visible) (m : Messages) → names_of (messages m).sent ≡ names_of m.sent
+      ++ labels_of (sent a there)
   pub agree : (a : Around) (v there : Visible) (spot : Spot) → Clean (faults a v spot) → Agree v there → Agree (behind v) there
-  pub told : (h : Home) (a : Around) (v : Visible) (head : List core.Parameter) (there : Visible) (spot : Spot) (around : shapes.Around) → InLoop h a v head there around → spot.looped ≡ true → Clean (faults a v spot) → shape around ≡ []
+  pub told : (h : Home) (a : Around) (v : Visible) (head : List core.Parameter) (there : Visible) (spot : Spot)
+      (around : shapes.Around) → InLoop h a v head there around → spot.looped ≡ true → Clean (faults a v spot) → shape around ≡ []
       → AllFit h head (sent a there)
 
 abbrev pub KindLaw : StmtKindPiece → (shapes.Around → List ShapeFault) → Type 0
@@ -105,18 +128,23 @@ abbrev without : StmtKind-F Kinds Stmts → StmtKind-F StmtKind Stmt
 without = map-StmtKind Kinds Stmts StmtKind Stmt (λ e. e.0) (λ e. e.0)
 
 abbrev shape_layer : StmtKind-F StmtKind Stmt → StmtKind-F (shapes.Around → List ShapeFault) (shapes.Around → List ShapeFault)
-shape_layer = map-StmtKind StmtKind Stmt (shapes.Around → List ShapeFault) (shapes.Around → List ShapeFault) faults_of_stmt_kind faults_of_stmt
+shape_layer =
+    map-StmtKind StmtKind Stmt (shapes.Around → List ShapeFault)
+    (shapes.Around → List ShapeFault) faults_of_stmt_kind faults_of_stmt
 
 abbrev LayerLaw : StmtKind-F Kinds Stmts → Type 0
 LayerLaw y = KindLaw (piece_in_stmt_kind (layer_of (without y))) (shapes_in_stmt_kind (shape_layer (without y)))
 
 -- Blocks
 
-block_grows : (ss : List Stmts) (names : List Name) (m : Messages) → AllByRecursion (IsAmong names) (messages_of_statements (parts_in (pieces ss)) m).received → AllByRecursion (IsAmong names) m.received
+block_grows : (ss : List Stmts) (names : List Name) (m : Messages)
+    → AllByRecursion (IsAmong names) (messages_of_statements (parts_in (pieces ss)) m).received
+    → AllByRecursion (IsAmong names) m.received
 block_grows [] names m k = k
 block_grows (s ∷ ss) names m k = s.1.grows names m (block_grows ss names ((piece_of_stmt s.0).part.messages m) k)
 
-block_labels : (ss : List Stmts) (a : Around) (there : Visible) (m : Messages) → names_of (messages_of_statements (parts_in (pieces ss)) m).sent ≡ names_of m.sent ++ labels_of (sent_in (pieces ss) a there)
+block_labels : (ss : List Stmts) (a : Around) (there : Visible) (m : Messages)
+    → names_of (messages_of_statements (parts_in (pieces ss)) m).sent ≡ names_of m.sent ++ labels_of (sent_in (pieces ss) a there)
 block_labels [] a there m = sym (append-nil (names_of m.sent))
 block_labels (s ∷ ss) a there m =
     let own : List Message = (piece_of_stmt s.0).sent a there in
@@ -126,20 +154,26 @@ block_labels (s ∷ ss) a there m =
     ∙ append_assoc (names_of m.sent) (labels_of own) (labels_of rest)
     ∙ ap (λ names. names_of m.sent ++ names) (sym (map-append (λ (x : Message). x.label) own rest))
 
-all_append : (h : Home) (head : List core.Parameter) (ms ns : List Message) → AllFit h head ms → AllFit h head ns → AllFit h head (ms ++ ns)
+all_append : (h : Home) (head : List core.Parameter) (ms ns : List Message) → AllFit h head ms → AllFit h head ns
+    → AllFit h head (ms ++ ns)
 all_append h head [] ns i j = j
 all_append h head (m ∷ ms) ns i j = (i.0, all_append h head ms ns i.1 j)
 
-block_told : (ss : List Stmts) (h : Home) (a : Around) (v : Visible) (head : List core.Parameter) (there : Visible) (spot : Spot) (around : shapes.Around) → InLoop h a v head there around → spot.looped ≡ true
-    → Clean (faults_of_statements (parts_in (pieces ss)) a v spot) → shapes_of ss around ≡ [] → AllFit h head (sent_in (pieces ss) a there)
+block_told : (ss : List Stmts) (h : Home) (a : Around) (v : Visible) (head : List core.Parameter) (there : Visible) (spot : Spot)
+    (around : shapes.Around) → InLoop h a v head there around → spot.looped ≡ true
+    → Clean (faults_of_statements (parts_in (pieces ss)) a v spot) → shapes_of ss around ≡ []
+    → AllFit h head (sent_in (pieces ss) a there)
 block_told [] h a v head there spot around l looped clean none = tt
 block_told (s ∷ ss) h a v head there spot around l looped clean none =
     all_append h head ((piece_of_stmt s.0).sent a there) (sent_in (pieces ss) a there)
     (s.1.told h a v head there spot around l looped clean.0 (no_first (faults_of_stmt s.0 around) (shapes_of ss around) none))
-    (block_told ss h a ((piece_of_stmt s.0).part.behind v) head there spot around (agreeing (s.1.agree a v there spot clean.0 l.agree) l) looped clean.1 (no_second (faults_of_stmt s.0 around) (shapes_of ss around) none))
+    (block_told ss h a ((piece_of_stmt s.0).part.behind v) head there spot around
+    (agreeing (s.1.agree a v there spot clean.0 l.agree) l) looped clean.1
+    (no_second (faults_of_stmt s.0 around) (shapes_of ss around) none))
 
 -- a statement that sends, receives and declares nothing
-quiet : {faults : Around → Visible → Spot → Faults} {shape : shapes.Around → List ShapeFault} → Sends (λ m. m) (λ v. v) faults (λ a v. []) shape
+quiet : {faults : Around → Visible → Spot → Faults} {shape : shapes.Around → List ShapeFault}
+    → Sends (λ m. m) (λ v. v) faults (λ a v. []) shape
 quiet = record {
   grows = λ names m k. k;
   labels = λ a there m. sym (append-nil (names_of m.sent));
@@ -149,7 +183,8 @@ quiet = record {
 
 if_law : (e : Expr) (first second : List Stmts) → LayerLaw (StmtKind-F.If e first second)
 if_law e first second = λ span. record {
-  grows = λ names m k. block_grows first names m (block_grows second names (messages_of_statements (parts_in (pieces first)) m) k);
+  grows =
+      λ names m k. block_grows first names m (block_grows second names (messages_of_statements (parts_in (pieces first)) m) k);
   labels = λ a there m.
       let one : List Message = sent_in (pieces first) a there in
       let two : List Message = sent_in (pieces second) a there in
@@ -159,10 +194,13 @@ if_law e first second = λ span. record {
       ∙ ap (λ names. names_of m.sent ++ names) (sym (map-append (λ (x : Message). x.label) one two));
   agree = λ a v there spot clean x. x;
   told = λ h a v head there spot around l looped clean none.
-      let before : quantifiers_in e ++ shapes_of first around ≡ [] = no_first (quantifiers_in e ++ shapes_of first around) (shapes_of second around) none in
+      let before : quantifiers_in e ++ shapes_of first around ≡ [] =
+      no_first (quantifiers_in e ++ shapes_of first around) (shapes_of second around) none in
       all_append h head (sent_in (pieces first) a there) (sent_in (pieces second) a there)
-      (block_told first h a v head there (in_branch spot) around l looped clean.1.0 (no_second (quantifiers_in e) (shapes_of first around) before))
-      (block_told second h a v head there (in_branch spot) around l looped clean.1.1 (no_second (quantifiers_in e ++ shapes_of first around) (shapes_of second around) none));
+      (block_told first h a v head there (in_branch spot) around l looped clean.1.0
+      (no_second (quantifiers_in e) (shapes_of first around) before))
+      (block_told second h a v head there (in_branch spot) around l looped clean.1.1
+      (no_second (quantifiers_in e ++ shapes_of first around) (shapes_of second around) none));
 }
 
 while_law : (es : List Expr) (e : Expr) (body : List Stmts) → LayerLaw (StmtKind-F.While es e body)
@@ -171,7 +209,8 @@ while_law es e body = λ span. record {
   labels = λ a there m. block_labels body a there m;
   agree = λ a v there spot clean x. x;
   told = λ h a v head there spot around l looped clean none.
-      block_told body h a v head there (in_while spot) around l looped clean.1.1 (no_second (shapes_of_formulas es ++ quantifiers_in e) (shapes_of body around) none);
+      block_told body h a v head there (in_while spot) around l looped clean.1.1
+      (no_second (shapes_of_formulas es ++ quantifiers_in e) (shapes_of body around) none);
 }
 
 par_law : (o : Option Word) (range : Range) (c : Contract) (body : List Stmts) → LayerLaw (StmtKind-F.Par o range c body)
@@ -179,14 +218,18 @@ par_law o range c body = λ span. record {
   grows = λ names m k. block_grows body names m k;
   labels = λ a there m. block_labels body a there m;
   agree = λ a v there spot clean x. x;
-  told = λ h a v head there spot around l looped clean none. absurd (both_ways spot.looped (if_fails spot.looped rule.BodyForm span clean.0) looped);
+  told =
+      λ h a v head there spot around l looped clean none. absurd
+      (both_ways spot.looped (if_fails spot.looped rule.BodyForm span clean.0) looped);
 }
 
 local_law : (type : TypeWord) (w : Word) (value : Option Right) → LayerLaw (StmtKind-F.Local type w value)
 local_law type w value = λ span. record {
   grows = λ names m k. k;
   labels = λ a there m. sym (append-nil (names_of m.sent));
-  agree = λ a v there spot clean x. agree_local v there w.name type.kind (if_fails (is_visible v w.name) rule.Shadows w.span clean.1.0) x;
+  agree =
+      λ a v there spot clean x. agree_local v there w.name type.kind
+      (if_fails (is_visible v w.name) rule.Shadows w.span clean.1.0) x;
   told = λ h a v head there spot around l looped clean none. tt;
 }
 
@@ -195,10 +238,12 @@ send_law w n e = λ span. record {
   grows = λ names m k. k;
   labels = λ a there m. map-append (λ (x : Word). x.name) m.sent (w ∷ []);
   agree = λ a v there spot clean x. x;
-  told = λ h a v head there spot around l looped clean none. (message_fits e h a v head there around l clean.1.1 none, tt);
+  told = λ h a v head there spot around l looped clean none.
+      ((some_way n w.span clean.1.0, message_fits e h a v head there around l clean.1.1 none), tt);
 }
 
-first_all : (names : List Name) (ws vs : List Word) → AllByRecursion (IsAmong names) (ws ++ vs) → AllByRecursion (IsAmong names) ws
+first_all : (names : List Name) (ws vs : List Word) → AllByRecursion (IsAmong names) (ws ++ vs)
+    → AllByRecursion (IsAmong names) ws
 first_all names [] vs k = tt
 first_all names (w ∷ ws) vs k = (k.0, first_all names ws vs k.1)
 
@@ -237,24 +282,36 @@ layer_law (StmtKind-F.Send w n e) = send_law w n e
 layer_law (StmtKind-F.Recv w) = receive_law w
 layer_law (StmtKind-F.Return value) = λ span. quiet
 
-kind_step : (x : StmtKind-F StmtKind Stmt) (y : StmtKind-F Kinds Stmts) → without y ≡ x → KindLaw (piece_of_stmt_kind (roll-StmtKind x)) (faults_of_stmt_kind (roll-StmtKind x))
+kind_step : (x : StmtKind-F StmtKind Stmt) (y : StmtKind-F Kinds Stmts) → without y ≡ x
+    → KindLaw (piece_of_stmt_kind (roll-StmtKind x)) (faults_of_stmt_kind (roll-StmtKind x))
 kind_step x y is =
     subst (λ (k : StmtKindPiece). KindLaw k (faults_of_stmt_kind (roll-StmtKind x))) (sym (kind_at_roll x))
-    (subst (λ (f : shapes.Around → List ShapeFault). KindLaw (piece_in_stmt_kind (layer_of x)) f) (sym (fold-roll-StmtKind (shapes.Around → List ShapeFault) (shapes.Around → List ShapeFault) shapes_in_stmt_kind faults_in_stmt x))
-    (subst (λ (z : StmtKind-F StmtKind Stmt). KindLaw (piece_in_stmt_kind (layer_of z)) (shapes_in_stmt_kind (shape_layer z))) is (layer_law y)))
+    (subst (λ (f : shapes.Around → List ShapeFault). KindLaw (piece_in_stmt_kind (layer_of x)) f)
+    (sym (fold-roll-StmtKind (shapes.Around → List ShapeFault)
+    (shapes.Around → List ShapeFault) shapes_in_stmt_kind faults_in_stmt x))
+    (subst (λ (z : StmtKind-F StmtKind Stmt). KindLaw (piece_in_stmt_kind (layer_of z)) (shapes_in_stmt_kind (shape_layer z))) is
+    (layer_law y)))
 
-stmt_law : (span : Span) (k : StmtKindPiece) (shape : shapes.Around → List ShapeFault) → KindLaw k shape → StmtLaw (piece_in_stmt (record { span = span; kind = k })) shape
+stmt_law : (span : Span) (k : StmtKindPiece) (shape : shapes.Around → List ShapeFault) → KindLaw k shape
+    → StmtLaw (piece_in_stmt (record { span = span; kind = k })) shape
 stmt_law span k shape law = law span
 
-stmt_step : (x : Stmt-F StmtKind Stmt) (y : Stmt-F Kinds Stmts) → map-Stmt Kinds Stmts StmtKind Stmt (λ e. e.0) (λ e. e.0) y ≡ x → StmtLaw (piece_of_stmt (roll-Stmt x)) (faults_of_stmt (roll-Stmt x))
+stmt_step : (x : Stmt-F StmtKind Stmt) (y : Stmt-F Kinds Stmts) → map-Stmt Kinds Stmts StmtKind Stmt (λ e. e.0) (λ e. e.0) y ≡ x
+    → StmtLaw (piece_of_stmt (roll-Stmt x)) (faults_of_stmt (roll-Stmt x))
 stmt_step x y is =
     subst (λ (s : StmtPiece). StmtLaw s (faults_of_stmt (roll-Stmt x))) (sym (stmt_at_roll x))
-    (subst (λ (f : shapes.Around → List ShapeFault). StmtLaw (piece_in_stmt (map-Stmt StmtKind Stmt StmtKindPiece StmtPiece piece_of_stmt_kind piece_of_stmt x)) f) (sym (fold-roll-Stmt (shapes.Around → List ShapeFault) (shapes.Around → List ShapeFault) shapes_in_stmt_kind faults_in_stmt x))
-    (subst (λ (z : Stmt-F StmtKind Stmt). StmtLaw (piece_in_stmt (map-Stmt StmtKind Stmt StmtKindPiece StmtPiece piece_of_stmt_kind piece_of_stmt z)) (faults_of_stmt_kind z.kind)) is
+    (subst (λ (f : shapes.Around → List ShapeFault). StmtLaw
+    (piece_in_stmt (map-Stmt StmtKind Stmt StmtKindPiece StmtPiece piece_of_stmt_kind piece_of_stmt x)) f)
+    (sym (fold-roll-Stmt (shapes.Around → List ShapeFault)
+    (shapes.Around → List ShapeFault) shapes_in_stmt_kind faults_in_stmt x))
+    (subst (λ (z : Stmt-F StmtKind Stmt). StmtLaw (piece_in_stmt
+    (map-Stmt StmtKind Stmt StmtKindPiece StmtPiece piece_of_stmt_kind piece_of_stmt z)) (faults_of_stmt_kind z.kind)) is
     (stmt_law y.span (piece_of_stmt_kind y.kind.0) (faults_of_stmt_kind y.kind.0) y.kind.1)))
 
 sends_law : (s : Stmt) → StmtLaw (piece_of_stmt s) (faults_of_stmt s)
-sends_law = ind-Stmt (λ k. KindLaw (piece_of_stmt_kind k) (faults_of_stmt_kind k)) (λ s. StmtLaw (piece_of_stmt s) (faults_of_stmt s)) kind_step stmt_step
+sends_law =
+    ind-Stmt (λ k. KindLaw (piece_of_stmt_kind k) (faults_of_stmt_kind k))
+    (λ s. StmtLaw (piece_of_stmt s) (faults_of_stmt s)) kind_step stmt_step
 
 -- Statements as they stand
 
@@ -267,22 +324,34 @@ unfolding with_laws
 same_trees [] = refl
 same_trees (s ∷ ss) = ap (λ ts. s ∷ ts) (same_trees ss)
 
-pub statements_grow : (ss : List Stmt) (names : List Name) (m : Messages) → AllByRecursion (IsAmong names) (messages_of_statements (parts_in (map piece_of_stmt ss)) m).received → AllByRecursion (IsAmong names) m.received
-statements_grow ss names m k = subst (λ ts. AllByRecursion (IsAmong names) (messages_of_statements (parts_in (map piece_of_stmt ts)) m).received → AllByRecursion (IsAmong names) m.received) (same_trees ss) (block_grows (with_laws ss) names m) k
+pub statements_grow : (ss : List Stmt) (names : List Name) (m : Messages)
+    → AllByRecursion (IsAmong names) (messages_of_statements (parts_in (map piece_of_stmt ss)) m).received
+    → AllByRecursion (IsAmong names) m.received
+statements_grow ss names m k =
+    subst (λ ts. AllByRecursion (IsAmong names) (messages_of_statements (parts_in (map piece_of_stmt ts)) m).received
+    → AllByRecursion (IsAmong names) m.received) (same_trees ss) (block_grows (with_laws ss) names m) k
 
-pub statements_label : (ss : List Stmt) (a : Around) (there : Visible) → names_of (messages_of_statements (parts_in (map piece_of_stmt ss)) no_messages).sent ≡ labels_of (sent_in (map piece_of_stmt ss) a there)
+pub statements_label : (ss : List Stmt) (a : Around) (there : Visible)
+    → names_of (messages_of_statements (parts_in (map piece_of_stmt ss)) no_messages).sent
+    ≡ labels_of (sent_in (map piece_of_stmt ss) a there)
 statements_label ss a there =
-    subst (λ ts. names_of (messages_of_statements (parts_in (map piece_of_stmt ts)) no_messages).sent ≡ labels_of (sent_in (map piece_of_stmt ts) a there)) (same_trees ss) (block_labels (with_laws ss) a there no_messages)
+    subst (λ ts. names_of (messages_of_statements (parts_in (map piece_of_stmt ts)) no_messages).sent
+    ≡ labels_of (sent_in (map piece_of_stmt ts) a there)) (same_trees ss) (block_labels (with_laws ss) a there no_messages)
 
-pub statements_tell : (ss : List Stmt) (h : Home) (a : Around) (v : Visible) (head : List core.Parameter) (there : Visible) (spot : Spot) (around : shapes.Around) → InLoop h a v head there around → spot.looped ≡ true
-    → Clean (faults_of_statements (parts_in (map piece_of_stmt ss)) a v spot) → faults_of_each (map faults_of_stmt ss) around ≡ [] → AllFit h head (sent_in (map piece_of_stmt ss) a there)
+pub statements_tell : (ss : List Stmt) (h : Home) (a : Around) (v : Visible) (head : List core.Parameter) (there : Visible)
+    (spot : Spot) (around : shapes.Around) → InLoop h a v head there around → spot.looped ≡ true
+    → Clean (faults_of_statements (parts_in (map piece_of_stmt ss)) a v spot) → faults_of_each (map faults_of_stmt ss) around ≡ []
+    → AllFit h head (sent_in (map piece_of_stmt ss) a there)
 statements_tell ss h a v head there spot around l looped =
-    subst (λ ts. Clean (faults_of_statements (parts_in (map piece_of_stmt ts)) a v spot) → faults_of_each (map faults_of_stmt ts) around ≡ [] → AllFit h head (sent_in (map piece_of_stmt ts) a there)) (same_trees ss)
+    subst (λ ts. Clean (faults_of_statements (parts_in (map piece_of_stmt ts)) a v spot)
+    → faults_of_each (map faults_of_stmt ts) around ≡ [] → AllFit h head (sent_in (map piece_of_stmt ts) a there)) (same_trees ss)
     (block_told (with_laws ss) h a v head there spot around l looped)
 
 -- What is received
 
-label_or : (b : Bool) (words : List Word) (name : Name) → (has_label words name ≡ true → list_any (same_name name) (names_of words) ≡ true) → (b || has_label words name) ≡ true → (b || list_any (same_name name) (names_of words)) ≡ true
+label_or : (b : Bool) (words : List Word) (name : Name)
+    → (has_label words name ≡ true → list_any (same_name name) (names_of words) ≡ true) → (b || has_label words name) ≡ true
+    → (b || list_any (same_name name) (names_of words)) ≡ true
 label_or true words name rest k = refl
 label_or false words name rest k = rest k
 
@@ -290,15 +359,22 @@ label_among : (words : List Word) (name : Name) → has_label words name ≡ tru
 label_among [] name k = k
 label_among (w ∷ ws) name k = label_or (same_name name w.name) ws name (λ i. label_among ws name i) k
 
-pub all_sent : (labels received : List Word) → Clean (unknown_labels labels received) → AllByRecursion (IsAmong (names_of labels)) received
+pub all_sent : (labels received : List Word) → Clean (unknown_labels labels received)
+    → AllByRecursion (IsAmong (names_of labels)) received
 all_sent labels [] clean = tt
-all_sent labels (w ∷ ws) clean = (label_among labels w.name (unless_holds (has_label labels w.name) rule.UnknownName w.span clean.0), all_sent labels ws clean.1)
+all_sent labels (w ∷ ws) clean = (
+  label_among labels w.name (unless_holds (has_label labels w.name) rule.UnknownName w.span clean.0),
+  all_sent labels ws clean.1,
+)
 
-message_or : (h : Home) (head : List core.Parameter) (b : Bool) (m n : Message) (others : Bool) → FormulaFits h silent head m.formula → (others ≡ true → FormulaFits h silent head n.formula) → (b || others) ≡ true → FormulaFits h silent head (if b then m else n).formula
+message_or : (h : Home) (head : List core.Parameter) (b : Bool) (m n : Message) (others : Bool) → MessageFits h head m
+    → (others ≡ true → MessageFits h head n) → (b || others) ≡ true → MessageFits h head (if b then m else n)
 message_or h head true m n others fits rest k = fits
 message_or h head false m n others fits rest k = rest k
 
-pub received_fits : (h : Home) (head : List core.Parameter) (ms : List Message) (label : Name) → AllFit h head ms → list_any (same_name label) (labels_of ms) ≡ true → FormulaFits h silent head (message_of ms label).formula
+pub received_fits : (h : Home) (head : List core.Parameter) (ms : List Message) (label : Name) → AllFit h head ms
+    → list_any (same_name label) (labels_of ms) ≡ true → MessageFits h head (message_of ms label)
 received_fits h head [] label all k = absurd cc
 received_fits h head (m ∷ ms) label all k =
-    message_or h head (same_name label m.label) m (message_of ms label) (list_any (same_name label) (labels_of ms)) all.0 (λ i. received_fits h head ms label all.1 i) k
+    message_or h head (same_name label m.label) m (message_of ms label) (list_any (same_name label) (labels_of ms)) all.0
+    (λ i. received_fits h head ms label all.1 i) k

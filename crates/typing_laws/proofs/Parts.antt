@@ -12,7 +12,9 @@ use Rattle.pv_meaning.specs.Core as core
 use Rattle.pv_picks.specs.Operations.{is_position, cut_before, cut_behind, cuts_of, term_of, permission, permissions}
 use Rattle.pv_picks.specs.Pieces.{shifted, together}
 use Rattle.typed_programs.specs.Expressions.{Home, Speech, type_in, Says}
-use Rattle.typing_laws.specs.Formulas.{CutFits, FormulaFits, ItemsFit, ItemFits}
+use Rattle.typing_laws.specs.Formulas.{IsAmount, CutFits}
+use Rattle.typing_laws.proofs.Within.{FormulaWithin, ItemsWithin, ItemWithin}
+use Rattle.typing_laws.proofs.Places.{FieldsDeclared}
 use Rattle.typing_laws.proofs.Forms.{is_element, IsAccess}
 use Rattle.typing_laws.proofs.Expressions.{IsPlace}
 
@@ -37,7 +39,8 @@ module _ (h : Home) (speech : Speech) (xs : List core.Parameter) where
   cut_if false true c x y i j = behind_fits c x i
   cut_if false false c x y i j = (i, j, refl)
 
-  cuts_append : (cs ds : List Cut) → AllByRecursion (CutFits h speech xs) cs → AllByRecursion (CutFits h speech xs) ds → AllByRecursion (CutFits h speech xs) (cs ++ ds)
+  cuts_append : (cs ds : List Cut) → AllByRecursion (CutFits h speech xs) cs → AllByRecursion (CutFits h speech xs) ds
+      → AllByRecursion (CutFits h speech xs) (cs ++ ds)
   cuts_append [] ds i j = j
   cuts_append (c ∷ cs) ds i j = (i.0, cuts_append cs ds i.1 j)
 
@@ -63,66 +66,78 @@ module _ (h : Home) (speech : Speech) (xs : List core.Parameter) where
   number_in name (Some t) type k i = cc
 
   -- the term to which an equality fixes a position
-  pub term_fits : (name : Name) (e y : Expression) → e ≡ core.Equal true (core.Variable name) y → type_in xs name ≡ Some Int → Says h speech xs e Truth → Says h speech xs (term_of e) Int
+  pub term_fits : (name : Name) (e y : Expression) → e ≡ core.Equal true (core.Variable name) y → type_in xs name ≡ Some Int
+      → Says h speech xs e Truth → Says h speech xs (term_of e) Int
   term_fits name e y is p k =
       let both : Says h speech xs (core.Equal true (core.Variable name) y) Truth = subst (λ x. Says h speech xs x Truth) is k in
-      subst (λ x. Says h speech xs (term_of x) Int) (sym is) (subst (λ type. Says h speech xs y type) (number_in name (type_in xs name) both.0 p both.1) both.2)
+      subst (λ x. Says h speech xs (term_of x) Int) (sym is)
+      (subst (λ type. Says h speech xs y type) (number_in name (type_in xs name) both.0 p both.1) both.2)
 
   -- Places
 
-  pub permission_fits : (type : PvType) (units : ℕ) (span : Span) (e : Expression) → IsPlace e → Says h speech xs e type → FormulaFits h speech xs (permission type units span e)
-  permission_fits type units span (core.Constant v) place k = absurd place
-  permission_fits type units span core.This place k = absurd place
-  permission_fits type units span core.Result place k = absurd place
-  permission_fits type units span (core.Variable name') place k = absurd place
-  permission_fits type units span (core.Field e class field at) place k = k
-  permission_fits type units span (core.Element type' e i at) place k = (k.0, k.1, k.2)
-  permission_fits type units span (core.Length type' e at) place k = absurd place
-  permission_fits type units span (core.Not e) place k = absurd place
-  permission_fits type units span (core.Compute m o x y at) place k = absurd place
-  permission_fits type units span (core.Compare c x y) place k = absurd place
-  permission_fits type units span (core.Equal same x y) place k = absurd place
-  permission_fits type units span (core.And x y) place k = absurd place
-  permission_fits type units span (core.Or x y) place k = absurd place
-  permission_fits type units span (core.Implies x y) place k = absurd place
-  permission_fits type units span (core.Old e) place k = absurd place
+  pub permission_fits : (type : PvType) (units : ℕ) (span : Span) (e : Expression) → IsPlace e → FieldsDeclared h
+      → IsAmount units → Says h speech xs e type
+      → FormulaWithin h speech xs (permission type units span e)
+  permission_fits type units span (core.Constant v) place fields amount k = absurd place
+  permission_fits type units span core.This place fields amount k = absurd place
+  permission_fits type units span core.Result place fields amount k = absurd place
+  permission_fits type units span (core.Variable name') place fields amount k = absurd place
+  permission_fits type units span (core.Field e class field at) place fields amount k =
+      (k.0, k.1, fields class field type k.1, amount)
+  permission_fits type units span (core.Element type' e i at) place fields amount k = (k.0, k.1, k.2, amount)
+  permission_fits type units span (core.Length type' e at) place fields amount k = absurd place
+  permission_fits type units span (core.Not e) place fields amount k = absurd place
+  permission_fits type units span (core.Compute m o x y at) place fields amount k = absurd place
+  permission_fits type units span (core.Compare c x y) place fields amount k = absurd place
+  permission_fits type units span (core.Equal same x y) place fields amount k = absurd place
+  permission_fits type units span (core.And x y) place fields amount k = absurd place
+  permission_fits type units span (core.Or x y) place fields amount k = absurd place
+  permission_fits type units span (core.Implies x y) place fields amount k = absurd place
+  permission_fits type units span (core.Old e) place fields amount k = absurd place
 
-  permissions_fit : (type : PvType) (s : ℤ) (units : ℕ) (span : Span) (e : Expression) → IsAccess e → Says h speech xs e type → ItemFits h speech xs (permissions s units span e)
-  permissions_fit type s units span (core.Constant v) access k = absurd access
-  permissions_fit type s units span core.This access k = absurd access
-  permissions_fit type s units span core.Result access k = absurd access
-  permissions_fit type s units span (core.Variable name') access k = absurd access
-  permissions_fit type s units span (core.Field e class field at) access k = absurd access
-  permissions_fit type s units span (core.Element type' e i at) access k = (k.0, k.2)
-  permissions_fit type s units span (core.Length type' e at) access k = absurd access
-  permissions_fit type s units span (core.Not e) access k = absurd access
-  permissions_fit type s units span (core.Compute m o x y at) access k = absurd access
-  permissions_fit type s units span (core.Compare c x y) access k = absurd access
-  permissions_fit type s units span (core.Equal same x y) access k = absurd access
-  permissions_fit type s units span (core.And x y) access k = absurd access
-  permissions_fit type s units span (core.Or x y) access k = absurd access
-  permissions_fit type s units span (core.Implies x y) access k = absurd access
-  permissions_fit type s units span (core.Old e) access k = absurd access
+  permissions_fit : (type : PvType) (s : ℤ) (units : ℕ) (span : Span) (e : Expression) → IsAccess e → IsAmount units
+      → Says h speech xs e type
+      → ItemWithin h speech xs (permissions s units span e)
+  permissions_fit type s units span (core.Constant v) access amount k = absurd access
+  permissions_fit type s units span core.This access amount k = absurd access
+  permissions_fit type s units span core.Result access amount k = absurd access
+  permissions_fit type s units span (core.Variable name') access amount k = absurd access
+  permissions_fit type s units span (core.Field e class field at) access amount k = absurd access
+  permissions_fit type s units span (core.Element type' e i at) access amount k = (k.0, k.2, amount)
+  permissions_fit type s units span (core.Length type' e at) access amount k = absurd access
+  permissions_fit type s units span (core.Not e) access amount k = absurd access
+  permissions_fit type s units span (core.Compute m o x y at) access amount k = absurd access
+  permissions_fit type s units span (core.Compare c x y) access amount k = absurd access
+  permissions_fit type s units span (core.Equal same x y) access amount k = absurd access
+  permissions_fit type s units span (core.And x y) access amount k = absurd access
+  permissions_fit type s units span (core.Or x y) access amount k = absurd access
+  permissions_fit type s units span (core.Implies x y) access amount k = absurd access
+  permissions_fit type s units span (core.Old e) access amount k = absurd access
 
-  pub shifted_fits : (type : PvType) (form : Form) (units : ℕ) (span : Span) (e : Expression) → is_element form ≡ true → IsAccess e → Says h speech xs e type → ItemFits h speech xs (shifted form units span e)
-  shifted_fits type (element s) units span e is access k = permissions_fit type s units span e access k
-  shifted_fits type variable units span e is access k = absurd cc
-  shifted_fits type (literal n) units span e is access k = absurd cc
-  shifted_fits type (shift s) units span e is access k = absurd cc
-  shifted_fits type guard units span e is access k = absurd cc
-  shifted_fits type fixing units span e is access k = absurd cc
-  shifted_fits type other units span e is access k = absurd cc
+  pub shifted_fits : (type : PvType) (form : Form) (units : ℕ) (span : Span) (e : Expression) → is_element form ≡ true
+      → IsAccess e → IsAmount units
+      → Says h speech xs e type → ItemWithin h speech xs (shifted form units span e)
+  shifted_fits type (element s) units span e is access amount k = permissions_fit type s units span e access amount k
+  shifted_fits type variable units span e is access amount k = absurd cc
+  shifted_fits type (literal n) units span e is access amount k = absurd cc
+  shifted_fits type (shift s) units span e is access amount k = absurd cc
+  shifted_fits type guard units span e is access amount k = absurd cc
+  shifted_fits type fixing units span e is access amount k = absurd cc
+  shifted_fits type other units span e is access amount k = absurd cc
 
   -- Choices, and items one behind the other
 
-  pub formula_if : (b : Bool) (f g : Formula) → (b ≡ true → FormulaFits h speech xs f) → (b ≡ false → FormulaFits h speech xs g) → FormulaFits h speech xs (if b then f else g)
+  pub formula_if : (b : Bool) (f g : Formula) → (b ≡ true → FormulaWithin h speech xs f)
+      → (b ≡ false → FormulaWithin h speech xs g) → FormulaWithin h speech xs (if b then f else g)
   formula_if true f g i j = i refl
   formula_if false f g i j = j refl
 
-  pub item_if : (b : Bool) (f g : Item) → (b ≡ true → ItemFits h speech xs f) → (b ≡ false → ItemFits h speech xs g) → ItemFits h speech xs (if b then f else g)
+  pub item_if : (b : Bool) (f g : Item) → (b ≡ true → ItemWithin h speech xs f) → (b ≡ false → ItemWithin h speech xs g)
+      → ItemWithin h speech xs (if b then f else g)
   item_if true f g i j = i refl
   item_if false f g i j = j refl
 
-  pub together_fit : (is js : Items) → ItemsFit h speech xs is → ItemsFit h speech xs js → ItemsFit h speech xs (together is js)
+  pub together_fit : (is js : Items) → ItemsWithin h speech xs is → ItemsWithin h speech xs js
+      → ItemsWithin h speech xs (together is js)
   together_fit core.NoItems js i j = j
   together_fit (core.Join item is) js i j = (i.0, together_fit is js i.1 j)

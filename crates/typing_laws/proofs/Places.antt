@@ -19,7 +19,7 @@ use Rattle.pv_rules.specs.Statements.{option_type, in_statement}
 use Rattle.pv_meaning.specs.Core as core
 use Rattle.pv_meaning.specs.Members.{field_type, method_named, predicate_named}
 use Rattle.pv_picks.proofs.Sound.{Sound}
-use Rattle.typed_programs.specs.Expressions.{Home, Speech, silent}
+use Rattle.typed_programs.specs.Expressions.{Home, Speech, silent, IsDeclared}
 use Rattle.typed_programs.specs.Blocks.{types_of}
 use Rattle.typing_laws.proofs.Scopes.{Lists}
 
@@ -36,12 +36,17 @@ pub record IsPredicateThere (tree : core.Program) (class name : Name) (q : Predi
   pub found : predicate_named tree class name ≡ Some there
   pub types : types_of there.parameters ≡ parts.types_of q.params
 
--- a plain tree declares the fields, methods and predicates of a program, and each type of a result is one that a declaration may have
+-- a plain tree declares the fields, methods and predicates of a program, and each type of a result is one that a declaration may
+-- have
 pub record Declares (p : Program) (tree : core.Program) : Type 0 where
-  pub fields : (class field : Name) (type : PvType) → type_of_field (class_named p.classes class) field ≡ Some type → field_type tree class field ≡ Some type
-  pub methods : (class name : Name) (m : Method) → rules.method_named (members_of (class_named p.classes class)) name ≡ Some m → IsMethodThere tree class name m
-  pub predicates : (class name : Name) (q : Predicate) → rules.predicate_named (members_of (class_named p.classes class)) name ≡ Some q → IsPredicateThere tree class name q
-  pub results : (class name : Name) (m : Method) (type : PvType) → rules.method_named (members_of (class_named p.classes class)) name ≡ Some m → option_type m.result ≡ Some type
+  pub fields : (class field : Name) (type : PvType) → type_of_field (class_named p.classes class) field ≡ Some type
+      → field_type tree class field ≡ Some type
+  pub methods : (class name : Name) (m : Method) → rules.method_named (members_of (class_named p.classes class)) name ≡ Some m
+      → IsMethodThere tree class name m
+  pub predicates : (class name : Name) (q : Predicate) → rules.predicate_named (members_of (class_named p.classes class)) name
+      ≡ Some q → IsPredicateThere tree class name q
+  pub results : (class name : Name) (m : Method) (type : PvType)
+      → rules.method_named (members_of (class_named p.classes class)) name ≡ Some m → option_type m.result ≡ Some type
       → is_declared_type p.classes type ≡ true
 
 pub record Place (h : Home) (a : Around) (v : Visible) (xs : List core.Parameter) : Type 0 where
@@ -50,18 +55,24 @@ pub record Place (h : Home) (a : Around) (v : Visible) (xs : List core.Parameter
   pub class : a.class ≡ h.class
   pub listed : Lists v xs
 
+-- the fields of the program have types that are declared
+abbrev pub FieldsDeclared : Home → Type 0
+FieldsDeclared h = (class field : Name) (type : PvType) → field_type h.program class field ≡ Some type → IsDeclared type
+
 -- what a context allows to be spoken of, a speech does: `\result`, which has its type there, and `\old`
 pub record Speaks (speech : Speech) (a : Around) (c : Context) : Type 0 where
   pub result : c.result ≡ true → speech.result ≡ a.result
   pub old : c.old ≡ true → speech.old ≡ true
 
 pub says_nothing : (speech : Speech) (a : Around) (c : Context) → c.result ≡ false → c.old ≡ false → Speaks speech a c
-says_nothing speech a c result old = record { result = λ i. absurd (both_ways c.result result i); old = λ i. absurd (both_ways c.old old i) }
+says_nothing speech a c result old =
+    record { result = λ i. absurd (both_ways c.result result i); old = λ i. absurd (both_ways c.old old i) }
 
 pub speaks_purely : {speech : Speech} {a : Around} {c : Context} → Speaks speech a c → Speaks speech a (typing.purely c)
 speaks_purely h = record { result = h.result; old = h.old }
 
-pub speaks_left : {speech : Speech} {a : Around} {c : Context} (o : Operator) → Speaks speech a c → Speaks speech a (typing.under_left o c)
+pub speaks_left : {speech : Speech} {a : Around} {c : Context} (o : Operator) → Speaks speech a c
+    → Speaks speech a (typing.under_left o c)
 speaks_left op.Eq h = speaks_purely h
 speaks_left op.Ne h = speaks_purely h
 speaks_left op.And h = speaks_purely h
@@ -69,14 +80,16 @@ speaks_left op.Or h = speaks_purely h
 speaks_left op.Implies h = speaks_purely h
 speaks_left _ h = h
 
-pub speaks_right : {speech : Speech} {a : Around} {c : Context} (o : Operator) → Speaks speech a c → Speaks speech a (typing.under_right o c)
+pub speaks_right : {speech : Speech} {a : Around} {c : Context} (o : Operator) → Speaks speech a c
+    → Speaks speech a (typing.under_right o c)
 speaks_right op.Eq h = speaks_purely h
 speaks_right op.Ne h = speaks_purely h
 speaks_right op.And h = speaks_purely h
 speaks_right op.Or h = speaks_purely h
 speaks_right _ h = h
 
-pub speaks_quantified : {speech : Speech} {a : Around} {c : Context} (star : Bool) → Speaks speech a c → Speaks speech a (under_quantifier star c)
+pub speaks_quantified : {speech : Speech} {a : Around} {c : Context} (star : Bool) → Speaks speech a c
+    → Speaks speech a (under_quantifier star c)
 speaks_quantified true h = h
 speaks_quantified false h = speaks_purely h
 

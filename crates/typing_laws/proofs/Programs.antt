@@ -43,10 +43,15 @@ use Rattle.pv_picks.proofs.StmtLayers.{layer_of, kind_rolled, stmt_rolled, parts
 use Rattle.pv_picks.proofs.Whole.{sound_class, sound_params, sound_result, result_declared}
 use Rattle.typed_programs.specs.Expressions.{Home, Speech}
 use Rattle.typed_programs.specs.Blocks.{types_of, gives_statement, gives, home_of, over, MethodFits, ProgramFits}
-use Rattle.typing_laws.proofs.Scopes.{nothing_listed, params_listed}
+use Rattle.pv_picks.specs.Resolved.{names_of}
+use Rattle.pv_picks.proofs.Knowing.{knows_all}
+use Rattle.pv_picks.proofs.Places.{NoBlock, no_block_params, no_block_at_all}
+use Rattle.core_laws.proofs.Scopes.{IsHead, head_of_params}
+use Rattle.typing_laws.proofs.Locals.{none_own}
+use Rattle.typing_laws.proofs.Scopes.{nothing_listed, params_listed, listed_known}
 use Rattle.typing_laws.proofs.Places.{Declares, IsMethodThere, IsPredicateThere, Place}
 use Rattle.typing_laws.proofs.Expressions.{no_first, no_second}
-use Rattle.typing_laws.specs.Formulas.{midway, BlockSays}
+use Rattle.typing_laws.specs.Formulas.{BlockSays}
 use Rattle.typing_laws.proofs.Standing.{At, InBlocks, outermost_blocks}
 use Rattle.typing_laws.proofs.Statements.{Returns, statement_law, says_fits}
 use Rattle.typing_laws.proofs.Members.{found_of, found_name, IsClean, classes_clean, IsCleanMethod, methods_clean, IsCleanRun, run_clean}
@@ -57,7 +62,8 @@ same_types : (ps : List Param) → types_of (parameters_of ps) ≡ parts.types_o
 same_types [] = refl
 same_types (p ∷ ps) = ap (λ types. p.kind.kind ∷ types) (same_types ps)
 
-method_there : (p : Program) (o : Option Class) (class name : Name) (m : Method) → class_named p.classes class ≡ o → rules.method_named (members_of o) name ≡ Some m → IsMethodThere (core_of p) class name m
+method_there : (p : Program) (o : Option Class) (class name : Name) (m : Method) → class_named p.classes class ≡ o
+    → rules.method_named (members_of o) name ≡ Some m → IsMethodThere (core_of p) class name m
 method_there p None class name m there is = absurd cc
 method_there p (Some c) class name m there is = record {
   there = core_of_method (in_class p c) m;
@@ -67,7 +73,8 @@ method_there p (Some c) class name m there is = record {
 }
 
 -- a predicate of the name
-found_map : {A B : Type 0} (f : A → B) (b c : Bool) (x : A) (o : Option A) (q : Option B) (y : A) → b ≡ c → (o ≡ Some y → q ≡ Some (f y)) → (if c then Some x else o) ≡ Some y → (if b then Some (f x) else q) ≡ Some (f y)
+found_map : {A B : Type 0} (f : A → B) (b c : Bool) (x : A) (o : Option A) (q : Option B) (y : A) → b ≡ c
+    → (o ≡ Some y → q ≡ Some (f y)) → (if c then Some x else o) ≡ Some y → (if b then Some (f x) else q) ≡ Some (f y)
 found_map f true true x o q y same h k = let is : x ≡ y = cc in ap (λ z. Some (f z)) is
 found_map f false false x o q y same h k = h k
 found_map f true false x o q y same h k = absurd cc
@@ -79,62 +86,92 @@ same_truth false true h k = k refl
 same_truth false false h k = refl
 
 either_way : (m n : ℕ) → nat_eq m n ≡ nat_eq n m
-either_way m n = same_truth (nat_eq m n) (nat_eq n m) (λ h. eq-eqb n m (sym (eqb-true m n h))) (λ h. eq-eqb m n (sym (eqb-true n m h)))
+either_way m n =
+    same_truth (nat_eq m n) (nat_eq n m) (λ h. eq-eqb n m (sym (eqb-true m n h))) (λ h. eq-eqb m n (sym (eqb-true n m h)))
 
 predicate_among : (a : Around) (name : Name) (ms : List Member) (q : Predicate) → rules.predicate_named ms name ≡ Some q
-    → first_that (λ (q : core.Predicate). nat_eq q.name.0 name.0) (filter_map predicate_of (map (core_of_member a) ms)) ≡ Some (core_of_predicate a q)
+    → first_that (λ (q : core.Predicate). nat_eq q.name.0 name.0) (filter_map predicate_of (map (core_of_member a) ms))
+    ≡ Some (core_of_predicate a q)
 predicate_among a name [] q is = absurd cc
 predicate_among a name (member.Field f ∷ ms) q is = predicate_among a name ms q is
 predicate_among a name (member.Predicate x ∷ ms) q is =
-    found_map (core_of_predicate a) (nat_eq x.name.name.0 name.0) (nat_eq name.0 x.name.name.0) x (rules.predicate_named ms name) _ q (either_way x.name.name.0 name.0) (λ k. predicate_among a name ms q k) is
+    found_map (core_of_predicate a) (nat_eq x.name.name.0 name.0) (nat_eq name.0 x.name.name.0) x
+    (rules.predicate_named ms name) _ q (either_way x.name.name.0 name.0) (λ k. predicate_among a name ms q k) is
 predicate_among a name (member.Method m ∷ ms) q is = predicate_among a name ms q is
 predicate_among a name (member.Run r ∷ ms) q is = predicate_among a name ms q is
 
-predicate_there : (p : Program) (o : Option Class) (class name : Name) (q : Predicate) → class_named p.classes class ≡ o → rules.predicate_named (members_of o) name ≡ Some q → IsPredicateThere (core_of p) class name q
+predicate_there : (p : Program) (o : Option Class) (class name : Name) (q : Predicate) → class_named p.classes class ≡ o
+    → rules.predicate_named (members_of o) name ≡ Some q → IsPredicateThere (core_of p) class name q
 predicate_there p None class name q there is = absurd cc
 predicate_there p (Some c) class name q there is = record {
   there = core_of_predicate (in_class p c) q;
-  found = ap (λ c. first_that (λ (q : core.Predicate). nat_eq q.name.0 name.0) (filter_map predicate_of (members.members_of c))) (class_found p class ∙ ap (option_map (core_of_class p)) there)
+  found =
+      ap (λ c. first_that (λ (q : core.Predicate). nat_eq q.name.0 name.0) (filter_map predicate_of (members.members_of c)))
+      (class_found p class ∙ ap (option_map (core_of_class p)) there)
       ∙ predicate_among (in_class p c) name c.members q is;
   types = same_types q.params;
 }
 
-method_result : (p : Program) (o : Option Class) (class name : Name) (m : Method) (type : PvType) → ((c : Class) → o ≡ Some c → IsClean p c) → rules.method_named (members_of o) name ≡ Some m → option_type m.result ≡ Some type
+method_result : (p : Program) (o : Option Class) (class name : Name) (m : Method) (type : PvType)
+    → ((c : Class) → o ≡ Some c → IsClean p c) → rules.method_named (members_of o) name ≡ Some m → option_type m.result
+    ≡ Some type
     → is_declared_type p.classes type ≡ true
 method_result p None class name m type clean is result = absurd cc
 method_result p (Some c) class name m type clean is result =
     let k : IsClean p c = clean c refl in
     let f : IsCleanMethod (in_class p c) m =
-    found_of (IsCleanMethod (in_class p c)) (λ m. m.name.name) _ name m (methods_clean (in_class p c) c.members k.0.1.1.1 (no_second (shapes.faults_of_invariant c.lock_invariant) _ k.1)) is in
+    found_of (IsCleanMethod (in_class p c)) (λ m. m.name.name) _ name m
+    (methods_clean (in_class p c) c.members k.0.1.1.1 (no_second (shapes.faults_of_invariant c.lock_invariant) _ k.1)) is in
     result_declared (in_class p c) m.result f.0.0 type result
 
-declares : (p : Program) → ((class : Name) (c : Class) → class_named p.classes class ≡ Some c → IsClean p c) → Declares p (core_of p)
+declares : (p : Program) → ((class : Name) (c : Class) → class_named p.classes class ≡ Some c → IsClean p c)
+    → Declares p (core_of p)
 declares p clean = record {
   fields = λ class field type is. (core_mirrors p).fields class field ∙ is;
   methods = λ class name m is. method_there p (class_named p.classes class) class name m refl is;
   predicates = λ class name q is. predicate_there p (class_named p.classes class) class name q refl is;
-  results = λ class name m type is result. method_result p (class_named p.classes class) class name m type (clean class) is result;
+  results =
+      λ class name m type is result. method_result p (class_named p.classes class) class name m type (clean class) is result;
 }
 
 -- Bodies
 
-body_law : (ss : List Stmt) (n : ℕ) (h : Home) (speech : Speech) (a : Around) (v : Visible) (xs head : List core.Parameter) (spot : Spot) (site : Site) (around : shapes.Around) → (is_loop spot.surround ≡ true → ⊥) → Place h a v xs
-    → At h speech a v xs head spot site around → ((there : Spot) → Returns h a there) → Clean (faults_of_body (map (λ s. s.part) (map piece_of_stmt ss)) a v spot) → shapes.faults_of_block ss around ≡ []
+body_law : (ss : List Stmt) (n : ℕ) (h : Home) (speech : Speech) (a : Around) (v : Visible) (xs head : List core.Parameter)
+    (spot : Spot) (site : Site) (around : shapes.Around) → (is_loop spot.surround ≡ true → ⊥) → Place h a v xs
+    → At h speech a v xs head spot site around → ((there : Spot) → Returns h a there)
+    → Clean (faults_of_body (map (λ s. s.part) (map piece_of_stmt ss)) a v spot) → shapes.faults_of_block ss around ≡ []
     → BlockSays h speech head xs (block_from n (map piece_of_stmt ss) a v site)
 body_law [] n h speech a v xs head spot site around no_loop place stands returns clean none = tt
 body_law (s ∷ ss) n h speech a v xs head spot site around no_loop place stands returns clean none =
     let there : Spot = record spot { last = is_nothing (map (λ s. s.part) (map piece_of_stmt ss)) } in
-    statement_law s h speech a v xs head there (at n site) around place stands no_messages (λ k. absurd (no_loop k)) (returns there) clean.0 (no_first (shapes.faults_of_stmt s around) (shapes.faults_of_block ss around) none) _
-    (λ ys further standing. body_law ss (n + 1) h speech a ((piece_of_stmt s).part.behind v) ys head spot site around no_loop further standing returns clean.1 (no_second (shapes.faults_of_stmt s around) (shapes.faults_of_block ss around) none))
+    statement_law s h speech a v xs head there (at n site) around place stands no_messages (λ k. absurd (no_loop k))
+    (returns there) clean.0 (no_first (shapes.faults_of_stmt s around) (shapes.faults_of_block ss around) none) _
+    (λ ys further standing. body_law ss (n + 1) h speech a
+    ((piece_of_stmt s).part.behind v) ys head spot site around no_loop further standing returns clean.1
+    (no_second (shapes.faults_of_stmt s around) (shapes.faults_of_block ss around) none))
 
-whole_body : (ss : List Stmt) (h : Home) (speech : Speech) (a : Around) (v : Visible) (xs : List core.Parameter) (method : Bool) → Place h a v xs → InBlocks v xs no_name shapes.outside → ((method && true) ≡ true → speech.old ≡ true)
-    → ((there : Spot) → Returns h a there) → Clean (faults_of_body (parts_of_block ss) a v (at_body method)) → shapes.faults_of_block ss shapes.outside ≡ [] → BlockSays h speech xs xs (core_of_body a v ss)
-whole_body ss h speech a v xs method place blocks old returns clean none =
-    body_law ss 0 h speech a v xs xs (at_body method) (outermost v) shapes.outside (λ k. cc) place (record { old = old; blocks = blocks; loop = λ k. absurd cc; told = λ k. absurd cc }) returns
+whole_body : (ss : List Stmt) (h : Home) (speech : Speech) (a : Around) (v : Visible) (xs : List core.Parameter) (method : Bool)
+    → Place h a v xs → InBlocks v xs no_name shapes.outside → NoBlock v → IsHead v
+    → ((method && true) ≡ true → speech.old ≡ true)
+    → ((there : Spot) → Returns h a there) → Clean (faults_of_body (parts_of_block ss) a v (at_body method))
+    → shapes.faults_of_block ss shapes.outside ≡ [] → BlockSays h speech xs xs (core_of_body a v ss)
+whole_body ss h speech a v xs method place blocks innermost at_head old returns clean none =
+    body_law ss 0 h speech a v xs xs (at_body method) (outermost v) shapes.outside (λ k. cc) place (record {
+      old = old;
+      blocks = blocks;
+      loop = λ k. absurd cc;
+      told = λ k. absurd cc;
+      within = λ n type k. k;
+      known = knows_all false v (names_of xs) (listed_known v xs place.listed);
+      block = λ k. absurd cc;
+      own = none_own v xs at_head;
+      innermost = λ other. innermost;
+    }) returns
     (subst (λ (ps : List StmtPart). Clean (faults_of_body ps a v (at_body method))) (sym (parts_in_pieces ss)) clean) none
 
 -- a body whose last statement gives a value gives one
-value_given : (l : StmtKind-F StmtKind Stmt) (span : Span) (a : Around) (v : Visible) (site : Site) → is_value_return l ≡ true → gives_statement ((piece_in_stmt_kind (layer_of l)).statement span a v site) ≡ true
+value_given : (l : StmtKind-F StmtKind Stmt) (span : Span) (a : Around) (v : Visible) (site : Site) → is_value_return l ≡ true
+    → gives_statement ((piece_in_stmt_kind (layer_of l)).statement span a v site) ≡ true
 value_given (StmtKind-F.Return (Some e)) span a v site k = refl
 value_given (StmtKind-F.Return None) span a v site k = absurd cc
 value_given (StmtKind-F.Local type w value) span a v site k = absurd cc
@@ -156,16 +193,21 @@ value_given (StmtKind-F.Assert e) span a v site k = absurd cc
 value_given (StmtKind-F.Send w n e) span a v site k = absurd cc
 value_given (StmtKind-F.Recv w) span a v site k = absurd cc
 
-statement_gives : (s : Stmt) (a : Around) (v : Visible) (site : Site) → is_value_return (out-StmtKind s.kind) ≡ true → gives_statement ((piece_of_stmt s).statement a v site) ≡ true
+statement_gives : (s : Stmt) (a : Around) (v : Visible) (site : Site) → is_value_return (out-StmtKind s.kind) ≡ true
+    → gives_statement ((piece_of_stmt s).statement a v site) ≡ true
 statement_gives s a v site k =
-    ap (λ (x : StmtPiece). gives_statement (x.statement a v site)) (stmt_rolled s) ∙ ap (λ x. gives_statement (x.statement s.span a v site)) (kind_rolled s.kind)
+    ap (λ (x : StmtPiece). gives_statement (x.statement a v site)) (stmt_rolled s)
+    ∙ ap (λ x. gives_statement (x.statement s.span a v site)) (kind_rolled s.kind)
     ∙ value_given (out-StmtKind s.kind) s.span a v site k
 
-body_gives : (ss : List Stmt) (n : ℕ) (a : Around) (v : Visible) (site : Site) → ends_with_value ss ≡ true → gives (block_from n (map piece_of_stmt ss) a v site) ≡ true
+body_gives : (ss : List Stmt) (n : ℕ) (a : Around) (v : Visible) (site : Site) → ends_with_value ss ≡ true
+    → gives (block_from n (map piece_of_stmt ss) a v site) ≡ true
 body_gives [] n a v site k = absurd cc
-body_gives (s ∷ []) n a v site k = or_left (gives_statement ((piece_of_stmt s).statement a v (at n site))) false (statement_gives s a v (at n site) k)
+body_gives (s ∷ []) n a v site k =
+    or_left (gives_statement ((piece_of_stmt s).statement a v (at n site))) false (statement_gives s a v (at n site) k)
 body_gives (s ∷ t ∷ ss) n a v site k =
-    or_right (gives_statement ((piece_of_stmt s).statement a v (at n site))) _ (body_gives (t ∷ ss) (n + 1) a ((piece_of_stmt s).part.behind v) site k)
+    or_right (gives_statement ((piece_of_stmt s).statement a v (at n site))) _
+    (body_gives (t ∷ ss) (n + 1) a ((piece_of_stmt s).part.behind v) site k)
 
 not_false : (b c : Bool) → b ≡ true → (b && not c) ≡ false → c ≡ true
 not_false true true h k = refl
@@ -181,6 +223,10 @@ has_result (Some t) type h = refl
 
 -- Methods and each `run`
 
+-- the state that a method began in
+abbrev speaking : core.Method → Speech
+speaking m = record { result = None; old = is_some m.name }
+
 -- a class of the program that is found by a name
 pub record ClassAt (p : Program) (class : Name) (c : Class) : Type 0 where
   pub clean : IsClean p c
@@ -189,69 +235,96 @@ pub record ClassAt (p : Program) (class : Name) (c : Class) : Type 0 where
   pub declares : Declares p (core_of p)
 
 -- where the contract and the body of a method stand, and those of a `run`
-pub method_place : (p : Program) (class : Name) (c : Class) (m : Method) (answer : Option PvType) → ClassAt p class c → IsCleanMethod (in_class p c) m
-    → Place (record { program = core_of p; class = class; answer = answer }) (in_method (in_class p c) m) (parameters_in_scope m) (over [] (parameters_of m.params))
+pub method_place : (p : Program) (class : Name) (c : Class) (m : Method) (answer : Option PvType) → ClassAt p class c
+    → IsCleanMethod (in_class p c) m
+    → Place (record { program = core_of p; class = class; answer = answer }) (in_method (in_class p c) m) (parameters_in_scope m)
+    (over [] (parameters_of m.params))
 method_place p class c m answer at f =
     let a : Around = in_method (in_class p c) m in
     record {
-      sound = sound_params (core_of p) a nothing_visible m.params (sound_result (core_of p) (in_class p c) nothing_visible m.result at.sound f.0.0) f.0.1.0;
+      sound =
+          sound_params (core_of p) a nothing_visible m.params
+          (sound_result (core_of p) (in_class p c) nothing_visible m.result at.sound f.0.0) f.0.1.0;
       declares = at.declares;
       class = sym at.name;
       listed = params_listed a nothing_visible [] m.params f.0.1.0 nothing_listed;
     }
 
-pub class_place : (p : Program) (class : Name) (c : Class) (answer : Option PvType) → ClassAt p class c → Place (record { program = core_of p; class = class; answer = answer }) (in_class p c) nothing_visible []
-class_place p class c answer at = record { sound = at.sound; declares = at.declares; class = sym at.name; listed = nothing_listed }
+pub class_place : (p : Program) (class : Name) (c : Class) (answer : Option PvType) → ClassAt p class c
+    → Place (record { program = core_of p; class = class; answer = answer }) (in_class p c) nothing_visible []
+class_place p class c answer at =
+    record { sound = at.sound; declares = at.declares; class = sym at.name; listed = nothing_listed }
 
-pub method_says : (p : Program) (class : Name) (c : Class) (m : Method) → ClassAt p class c → IsCleanMethod (in_class p c) m → (let there : core.Method = core_of_method (in_class p c) m in
-    BlockSays (home_of (core_of p) class there) (midway there) (over [] there.parameters) (over [] there.parameters) there.body)
+pub method_says : (p : Program) (class : Name) (c : Class) (m : Method) → ClassAt p class c → IsCleanMethod (in_class p c) m
+    → (let there : core.Method = core_of_method (in_class p c) m in
+    BlockSays (home_of (core_of p) class there) (speaking there) (over [] there.parameters) (over [] there.parameters) there.body)
 method_says p class c m at f =
     let a : Around = in_method (in_class p c) m in
     let h : Home = home_of (core_of p) class (core_of_method (in_class p c) m) in
-    whole_body m.body h (midway (core_of_method (in_class p c) m)) a (parameters_in_scope m) (over [] (parameters_of m.params)) true (method_place p class c m h.answer at f)
-    (outermost_blocks a m.params (over [] (parameters_of m.params)) no_name shapes.outside f.0.1.0) (λ k. refl)
-    (λ there last type is. ap (λ o. Some (unwrap_or o Null)) is) f.0.1.1.1.0 (no_second (shapes.faults_of_contract m.contract) _ f.1)
+    whole_body m.body h (speaking (core_of_method (in_class p c) m)) a (parameters_in_scope m)
+    (over [] (parameters_of m.params)) true (method_place p class c m h.answer at f)
+    (outermost_blocks a m.params (over [] (parameters_of m.params)) no_name shapes.outside f.0.1.0)
+    (no_block_params nothing_visible m.params no_block_at_all)
+    (head_of_params m.params) (λ k. refl)
+    (λ there last type is. ap (λ o. Some (unwrap_or o Null)) is) f.0.1.1.1.0
+    (no_second (shapes.faults_of_contract m.contract) _ f.1)
 
-method_fits : (p : Program) (class : Name) (c : Class) (m : Method) → ClassAt p class c → IsCleanMethod (in_class p c) m → MethodFits (core_of p) class (core_of_method (in_class p c) m)
+method_fits : (p : Program) (class : Name) (c : Class) (m : Method) → ClassAt p class c → IsCleanMethod (in_class p c) m
+    → MethodFits (core_of p) class (core_of_method (in_class p c) m)
 method_fits p class c m at f = record {
   body = says_fits _ _ _ _ _ (method_says p class c m at f);
   result = λ type is. body_gives m.body 0 (in_method (in_class p c) m) (parameters_in_scope m) (outermost (parameters_in_scope m))
-      (not_false (is_some m.result) (ends_with_value m.body) (has_result m.result type is) (if_fails _ rule.NoReturn m.name.span f.0.1.1.1.1));
+      (not_false (is_some m.result) (ends_with_value m.body) (has_result m.result type is)
+      (if_fails _ rule.NoReturn m.name.span f.0.1.1.1.1));
 }
 
-pub run_says : (p : Program) (class : Name) (c : Class) (r : RunMethod) → ClassAt p class c → IsCleanRun (in_class p c) r → (let there : core.Method = core_of_run (in_class p c) r in
-    BlockSays (home_of (core_of p) class there) (midway there) [] [] there.body)
+pub run_says : (p : Program) (class : Name) (c : Class) (r : RunMethod) → ClassAt p class c → IsCleanRun (in_class p c) r
+    → (let there : core.Method = core_of_run (in_class p c) r in
+    BlockSays (home_of (core_of p) class there) (speaking there) [] [] there.body)
 run_says p class c r at f =
     let h : Home = home_of (core_of p) class (core_of_run (in_class p c) r) in
-    whole_body r.body h (midway (core_of_run (in_class p c) r)) (in_class p c) nothing_visible [] false (class_place p class c h.answer at) (outermost_blocks (in_class p c) [] [] no_name shapes.outside tt) (λ k. absurd cc)
+    whole_body r.body h (speaking (core_of_run (in_class p c) r)) (in_class p c) nothing_visible [] false
+    (class_place p class c h.answer at) (outermost_blocks (in_class p c) [] [] no_name shapes.outside tt)
+    no_block_at_all (head_of_params []) (λ k. absurd cc)
     (λ there last type is. absurd (no_type type is)) f.0.1 (no_second (shapes.faults_of_contract r.contract) _ f.1)
 
-run_fits : (p : Program) (class : Name) (c : Class) (r : RunMethod) → ClassAt p class c → IsCleanRun (in_class p c) r → MethodFits (core_of p) class (core_of_run (in_class p c) r)
-run_fits p class c r at f = record { body = says_fits _ _ _ _ _ (run_says p class c r at f); result = λ type is. absurd (no_type type is) }
+run_fits : (p : Program) (class : Name) (c : Class) (r : RunMethod) → ClassAt p class c → IsCleanRun (in_class p c) r
+    → MethodFits (core_of p) class (core_of_run (in_class p c) r)
+run_fits p class c r at f =
+    record { body = says_fits _ _ _ _ _ (run_says p class c r at f); result = λ type is. absurd (no_type type is) }
 
 -- Programs
 
-method_at_fits : (p : Program) (class name : Name) (c : Class) (o : Option Method) (m : core.Method) → ClassAt p class c → rules.method_named c.members name ≡ o → option_map (core_of_method (in_class p c)) o ≡ Some m → MethodFits (core_of p) class m
+method_at_fits : (p : Program) (class name : Name) (c : Class) (o : Option Method) (m : core.Method) → ClassAt p class c
+    → rules.method_named c.members name ≡ o → option_map (core_of_method (in_class p c)) o ≡ Some m
+    → MethodFits (core_of p) class m
 method_at_fits p class name c None m at there is = absurd cc
 method_at_fits p class name c (Some x) m at there is =
     let same : core_of_method (in_class p c) x ≡ m = cc in
     subst (λ (m : core.Method). MethodFits (core_of p) class m) same
-    (method_fits p class c x at (found_of (IsCleanMethod (in_class p c)) (λ m. m.name.name) _ name x (methods_clean (in_class p c) c.members at.clean.0.1.1.1 (no_second (shapes.faults_of_invariant c.lock_invariant) _ at.clean.1)) there))
+    (method_fits p class c x at (found_of (IsCleanMethod (in_class p c)) (λ m. m.name.name) _ name x
+    (methods_clean (in_class p c) c.members at.clean.0.1.1.1
+    (no_second (shapes.faults_of_invariant c.lock_invariant) _ at.clean.1)) there))
 
-run_at_fits : (p : Program) (class : Name) (c : Class) (o : Option RunMethod) (m : core.Method) → ClassAt p class c → first_run c.members ≡ o → option_map (core_of_run (in_class p c)) o ≡ Some m
+run_at_fits : (p : Program) (class : Name) (c : Class) (o : Option RunMethod) (m : core.Method) → ClassAt p class c
+    → first_run c.members ≡ o → option_map (core_of_run (in_class p c)) o ≡ Some m
     → MethodFits (core_of p) class m × (m.parameters ≡ [])
 run_at_fits p class c None m at there is = absurd cc
 run_at_fits p class c (Some r) m at there is =
     let same : core_of_run (in_class p c) r ≡ m = cc in
-    subst (λ (m : core.Method). MethodFits (core_of p) class m × (m.parameters ≡ [])) same
-    (run_fits p class c r at (run_clean (in_class p c) c.members r at.clean.0.1.1.1 (no_second (shapes.faults_of_invariant c.lock_invariant) _ at.clean.1) there), refl)
+    subst (λ (m : core.Method). MethodFits (core_of p) class m × (m.parameters ≡ [])) same (
+      run_fits p class c r at (run_clean (in_class p c) c.members r at.clean.0.1.1.1
+          (no_second (shapes.faults_of_invariant c.lock_invariant) _ at.clean.1) there),
+      refl,
+    )
 
 module _ (p : Program) (well_formed : IsWellFormed p) where
   all_clean : Clean (faults_of_program p)
   all_clean = clean_from (faults_of_program p) well_formed.rules
 
   class_clean : (class : Name) (c : Class) → class_named p.classes class ≡ Some c → IsClean p c
-  class_clean class c is = found_of (IsClean p) (λ c. c.name.name) p.classes class c (classes_clean p p.classes all_clean.1 well_formed.shapes) is
+  class_clean class c is =
+      found_of (IsClean p) (λ c. c.name.name) p.classes class c (classes_clean p p.classes all_clean.1 well_formed.shapes) is
 
   pub class_at : (class : Name) (c : Class) → class_named p.classes class ≡ Some c → ClassAt p class c
   class_at class c is =
@@ -263,16 +336,20 @@ module _ (p : Program) (well_formed : IsWellFormed p) where
         declares = declares p class_clean;
       }
 
-  methods_fit : (class name : Name) (m : core.Method) (o : Option Class) → class_named p.classes class ≡ o → method_at p o name ≡ Some m → MethodFits (core_of p) class m
+  methods_fit : (class name : Name) (m : core.Method) (o : Option Class) → class_named p.classes class ≡ o → method_at p o name
+      ≡ Some m → MethodFits (core_of p) class m
   methods_fit class name m None there is = absurd cc
-  methods_fit class name m (Some c) there is = method_at_fits p class name c (rules.method_named c.members name) m (class_at class c there) refl is
+  methods_fit class name m (Some c) there is =
+      method_at_fits p class name c (rules.method_named c.members name) m (class_at class c there) refl is
 
-  runs_fit : (class : Name) (m : core.Method) (o : Option Class) → class_named p.classes class ≡ o → run_at p o ≡ Some m → MethodFits (core_of p) class m × (m.parameters ≡ [])
+  runs_fit : (class : Name) (m : core.Method) (o : Option Class) → class_named p.classes class ≡ o → run_at p o ≡ Some m
+      → MethodFits (core_of p) class m × (m.parameters ≡ [])
   runs_fit class m None there is = absurd cc
   runs_fit class m (Some c) there is = run_at_fits p class c (first_run c.members) m (class_at class c there) refl is
 
   pub program_fits : ProgramFits (core_of p)
   program_fits = record {
-    methods = λ class name m is. methods_fit class name m (class_named p.classes class) refl (sym (method_found p class name) ∙ is);
+    methods =
+        λ class name m is. methods_fit class name m (class_named p.classes class) refl (sym (method_found p class name) ∙ is);
     runs = λ class m is. runs_fit class m (class_named p.classes class) refl (sym (run_found p class) ∙ is);
   }

@@ -39,7 +39,8 @@ none_declared : (o : Option Declared) → is_some o ≡ false → o ≡ None
 none_declared None h = refl
 none_declared (Some d) h = absurd cc
 
-pub not_listed : (v : Visible) (xs : List core.Parameter) (name : Name) → Lists v xs → is_visible v name ≡ false → type_in xs name ≡ None
+pub not_listed : (v : Visible) (xs : List core.Parameter) (name : Name) → Lists v xs → is_visible v name ≡ false → type_in xs name
+    ≡ None
 not_listed v xs name l new = l name ∙ ap (λ o. type_of (as_variable o)) (none_declared (declared_as v.names name) new)
 
 -- One more name
@@ -48,13 +49,15 @@ else_none : (o : Option Declared) → or_else o None ≡ o
 else_none None = refl
 else_none (Some d) = refl
 
-variable_if : (b : Bool) (o : Option Declared) (d : Declared) (rest : Option PvType) → (b ≡ true → o ≡ None) → rest ≡ type_of (as_variable o) → is_block d.declaration ≡ false
+variable_if : (b : Bool) (o : Option Declared) (d : Declared) (rest : Option PvType) → (b ≡ true → o ≡ None) → rest
+    ≡ type_of (as_variable o) → is_block d.declaration ≡ false
     → (if b then Some d.kind else rest) ≡ type_of (as_variable (or_else o (if b then Some d else None)))
 variable_if true o d rest new h k =
     ap (λ c. type_of (if c then None else Some d)) (sym k) ∙ ap (λ x. type_of (as_variable (or_else x (Some d)))) (sym (new refl))
 variable_if false o d rest new h k = h ∙ ap (λ x. type_of (as_variable x)) (sym (else_none o))
 
-block_if : (b : Bool) (o : Option Declared) (d : Declared) (rest : Option PvType) → (b ≡ true → o ≡ None) → rest ≡ type_of (as_variable o) → is_block d.declaration ≡ true
+block_if : (b : Bool) (o : Option Declared) (d : Declared) (rest : Option PvType) → (b ≡ true → o ≡ None) → rest
+    ≡ type_of (as_variable o) → is_block d.declaration ≡ true
     → rest ≡ type_of (as_variable (or_else o (if b then Some d else None)))
 block_if true o d rest new h k =
     h ∙ ap (λ x. type_of (as_variable x)) (new refl) ∙ ap (λ c. type_of (if c then None else Some d)) (sym k)
@@ -62,43 +65,55 @@ block_if true o d rest new h k =
 block_if false o d rest new h k = h ∙ ap (λ x. type_of (as_variable x)) (sym (else_none o))
 
 -- a name in scope that is the new one
-not_yet : (v : Visible) (name other : Name) → is_visible v name ≡ false → nat_eq other.0 name.0 ≡ true → declared_as v.names other ≡ None
+not_yet : (v : Visible) (name other : Name) → is_visible v name ≡ false → nat_eq other.0 name.0 ≡ true → declared_as v.names other
+    ≡ None
 not_yet v name other new h = ap (declared_as v.names) (same_name other name h) ∙ none_declared (declared_as v.names name) new
 
-pub variable_listed : (v : Visible) (xs : List core.Parameter) (how : Declaration) (name : Name) (type : PvType) → is_block how ≡ false → is_visible v name ≡ false → Lists v xs
+pub variable_listed : (v : Visible) (xs : List core.Parameter) (how : Declaration) (name : Name) (type : PvType) → is_block how
+    ≡ false → is_visible v name ≡ false → Lists v xs
     → Lists (declare_variable how v name type) ((name, type) ∷ xs)
 variable_listed v xs how name type variable new l =
     let d : Declared = record { declaration = how; kind = type } in
     subst (λ (w : Visible). Lists w ((name, type) ∷ xs)) (sym (declared_new v name d new))
-    (λ other. variable_if (nat_eq other.0 name.0) (declared_as v.names other) d (type_in xs other) (not_yet v name other new) (l other) variable
+    (λ other. variable_if (nat_eq other.0 name.0) (declared_as v.names other) d (type_in xs other) (not_yet v name other new)
+    (l other) variable
     ∙ ap (λ o. type_of (as_variable o)) (sym (declared_more v.names (name.0, d) other)))
 
-pub block_listed : (v : Visible) (xs : List core.Parameter) (how : Declaration) (name : Name) (type : PvType) → is_block how ≡ true → is_visible v name ≡ false → Lists v xs
+pub block_listed : (v : Visible) (xs : List core.Parameter) (how : Declaration) (name : Name) (type : PvType) → is_block how
+    ≡ true → is_visible v name ≡ false → Lists v xs
     → Lists (declare_variable how v name type) xs
 block_listed v xs how name type block new l =
     let d : Declared = record { declaration = how; kind = type } in
     subst (λ (w : Visible). Lists w xs) (sym (declared_new v name d new))
-    (λ other. block_if (nat_eq other.0 name.0) (declared_as v.names other) d (type_in xs other) (not_yet v name other new) (l other) block
+    (λ other. block_if (nat_eq other.0 name.0) (declared_as v.names other) d (type_in xs other) (not_yet v name other new)
+    (l other) block
     ∙ ap (λ o. type_of (as_variable o)) (sym (declared_more v.names (name.0, d) other)))
 
 -- Par blocks, counted loops and parameters
 
-pub loop_listed : (v : Visible) (xs : List core.Parameter) (w : Word) → Clean (shadows v w) → Lists v xs → Lists (with_loop_variable v w) ((w.name, Int) ∷ xs)
-loop_listed v xs w clean l = variable_listed v xs LoopVariable w.name Int refl (if_fails (is_visible v w.name) rule.Shadows w.span clean) l
+pub loop_listed : (v : Visible) (xs : List core.Parameter) (w : Word) → Clean (shadows v w) → Lists v xs
+    → Lists (with_loop_variable v w) ((w.name, Int) ∷ xs)
+loop_listed v xs w clean l =
+    variable_listed v xs LoopVariable w.name Int refl (if_fails (is_visible v w.name) rule.Shadows w.span clean) l
 
-pub block_name_listed : (v : Visible) (xs : List core.Parameter) (o : Option Word) → Clean (shadows_option v o) → Lists v xs → Lists (with_block v o) xs
+pub block_name_listed : (v : Visible) (xs : List core.Parameter) (o : Option Word) → Clean (shadows_option v o) → Lists v xs
+    → Lists (with_block v o) xs
 block_name_listed v xs None clean l = l
-block_name_listed v xs (Some w) clean l = block_listed v xs Block w.name Null refl (if_fails (is_visible v w.name) rule.Shadows w.span clean) l
+block_name_listed v xs (Some w) clean l =
+    block_listed v xs Block w.name Null refl (if_fails (is_visible v w.name) rule.Shadows w.span clean) l
 
-pub params_listed : (a : Around) (v : Visible) (xs : List core.Parameter) (ps : List Param) → Clean (faults_of_params a v ps) → Lists v xs → Lists (with_params v ps) (over xs (parameters_of ps))
+pub params_listed : (a : Around) (v : Visible) (xs : List core.Parameter) (ps : List Param) → Clean (faults_of_params a v ps)
+    → Lists v xs → Lists (with_params v ps) (over xs (parameters_of ps))
 params_listed a v xs [] clean l = l
 params_listed a v xs (p ∷ ps) clean l =
     params_listed a (with_param v p) (parameter_of p ∷ xs) ps clean.1.1
-    (variable_listed v xs Parameter p.name.name p.kind.kind refl (if_fails (is_visible v p.name.name) rule.Shadows p.name.span clean.1.0) l)
+    (variable_listed v xs Parameter p.name.name p.kind.kind refl
+    (if_fails (is_visible v p.name.name) rule.Shadows p.name.span clean.1.0) l)
 
 -- Names in scope without their types
 
-found_name : (b : Bool) (type : PvType) (rest : Option PvType) (others : Bool) → (is_some rest ≡ true → others ≡ true) → is_some (if b then Some type else rest) ≡ true → (b || others) ≡ true
+found_name : (b : Bool) (type : PvType) (rest : Option PvType) (others : Bool) → (is_some rest ≡ true → others ≡ true)
+    → is_some (if b then Some type else rest) ≡ true → (b || others) ≡ true
 found_name true type rest others h k = refl
 found_name false type rest others h k = h k
 

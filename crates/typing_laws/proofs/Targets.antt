@@ -12,7 +12,7 @@ use Rattle.pv_rules.specs.Scoping.{Visible, variable_named, is_inner_local}
 use Rattle.pv_rules.specs.Parts.{Around, Part, part_of}
 use Rattle.pv_rules.specs.Statements.{is_assignable, is_inner_local_kind, faults_of_expression, in_statement}
 use Rattle.pv_rules.specs.Shapes.{quantifiers_in}
-use Rattle.pv_meaning.specs.Core.{Expression, Right}
+use Rattle.pv_meaning.specs.Core.{Expression, Target, Right}
 use Rattle.pv_meaning.specs.Core as core
 use Rattle.pv_picks.specs.Operations.{target_of}
 use Rattle.pv_picks.specs.Names.{named}
@@ -21,7 +21,9 @@ use Rattle.pv_picks.specs.Statements.{core_of_target}
 use Rattle.pv_picks.proofs.Clean.{Clean}
 use Rattle.pv_picks.proofs.Layers.{layer_of, piece_rolled, kind_rolled, part_in_piece}
 use Rattle.typed_programs.specs.Expressions.{Home, silent}
+use Rattle.typing_laws.specs.Assigned.{TargetIs, IsOwn}
 use Rattle.typing_laws.specs.Formulas.{IsKept}
+use Rattle.typing_laws.proofs.Locals.{AreOwn}
 use Rattle.typing_laws.proofs.Places.{Place, statement_strict}
 use Rattle.typing_laws.proofs.Expressions.{IsPlace}
 use Rattle.typing_laws.proofs.Uses.{fits}
@@ -43,9 +45,32 @@ place_kept (core.Or x y) right place = absurd place
 place_kept (core.Implies x y) right place = absurd place
 place_kept (core.Old e) right place = absurd place
 
-named_kept : (a : Around) (span : Span) (name : Name) (o : Option Declared) (right : Right) → IsKept (target_of (named a span name o)) right
-named_kept a span name None right = tt
-named_kept a span name (Some d) right = tt
+-- a target that keeps a value, and is no variable at the head of the body
+abbrev IsOwnTarget : List core.Parameter → Target → Right → Type 0
+IsOwnTarget head target right = IsKept target right × TargetIs (IsOwn head) target
+
+place_own : (e : Expression) (head : List core.Parameter) → IsPlace e → TargetIs (IsOwn head) (target_of e)
+place_own (core.Constant v) head place = tt
+place_own core.This head place = tt
+place_own core.Result head place = tt
+place_own (core.Variable name) head place = absurd place
+place_own (core.Field e class field at) head place = tt
+place_own (core.Element type e i at) head place = tt
+place_own (core.Length type e at) head place = tt
+place_own (core.Not e) head place = tt
+place_own (core.Compute m o x y at) head place = tt
+place_own (core.Compare c x y) head place = tt
+place_own (core.Equal same x y) head place = tt
+place_own (core.And x y) head place = tt
+place_own (core.Or x y) head place = tt
+place_own (core.Implies x y) head place = tt
+place_own (core.Old e) head place = tt
+
+named_kept : (a : Around) (span : Span) (name : Name) (o : Option Declared) (head : List core.Parameter) (right : Right)
+    → IsOwn head name
+    → IsOwnTarget head (target_of (named a span name o)) right
+named_kept a span name None head right own = (tt, tt)
+named_kept a span name (Some d) head right own = (tt, own)
 
 -- a kind that is the name of a local
 abbrev is_local : Visible → ExprKind-F ExprKind Each Expr → Bool
@@ -73,36 +98,48 @@ as_rolled v (ExprKind-F.Each q) = ap (is_inner_local_kind v) (kind.rolls-Each q)
 as_layer : (v : Visible) (k : ExprKind) → is_inner_local_kind v k ≡ is_local v (out-ExprKind k)
 as_layer v k = ap (is_inner_local_kind v) (sym (roll-out-ExprKind k)) ∙ as_rolled v (out-ExprKind k)
 
-local_kept : (l : ExprKind-F ExprKind Each Expr) (a : Around) (v : Visible) (span : Span) (right : Right) → is_local v l ≡ true → IsKept (target_of ((piece_in_kind (layer_of l)).expression span a v)) right
-local_kept (ExprKind-F.Var w) a v span right k = named_kept a span w.name (variable_named v w.name) right
-local_kept (ExprKind-F.Number n) a v span right k = absurd cc
-local_kept (ExprKind-F.Truth b) a v span right k = absurd cc
-local_kept ExprKind-F.Null a v span right k = absurd cc
-local_kept ExprKind-F.This a v span right k = absurd cc
-local_kept ExprKind-F.Result a v span right k = absurd cc
-local_kept (ExprKind-F.Field e w) a v span right k = absurd cc
-local_kept (ExprKind-F.Index e i) a v span right k = absurd cc
-local_kept (ExprKind-F.Not e) a v span right k = absurd cc
-local_kept (ExprKind-F.Minus e) a v span right k = absurd cc
-local_kept (ExprKind-F.Binary o x y) a v span right k = absurd cc
-local_kept (ExprKind-F.Old e) a v span right k = absurd cc
-local_kept (ExprKind-F.Perm e part whole amount) a v span right k = absurd cc
-local_kept (ExprKind-F.Token t e) a v span right k = absurd cc
-local_kept (ExprKind-F.Instance target w args) a v span right k = absurd cc
-local_kept (ExprKind-F.Each q) a v span right k = absurd cc
+local_kept : (l : ExprKind-F ExprKind Each Expr) (a : Around) (v : Visible) (span : Span) (head : List core.Parameter)
+    (right : Right) → AreOwn v head
+    → is_local v l ≡ true → IsOwnTarget head (target_of ((piece_in_kind (layer_of l)).expression span a v)) right
+local_kept (ExprKind-F.Var w) a v span head right own k = named_kept a span w.name (variable_named v w.name) head right
+    (own w.name k)
+local_kept (ExprKind-F.Number n) a v span head right own k = absurd cc
+local_kept (ExprKind-F.Truth b) a v span head right own k = absurd cc
+local_kept ExprKind-F.Null a v span head right own k = absurd cc
+local_kept ExprKind-F.This a v span head right own k = absurd cc
+local_kept ExprKind-F.Result a v span head right own k = absurd cc
+local_kept (ExprKind-F.Field e w) a v span head right own k = absurd cc
+local_kept (ExprKind-F.Index e i) a v span head right own k = absurd cc
+local_kept (ExprKind-F.Not e) a v span head right own k = absurd cc
+local_kept (ExprKind-F.Minus e) a v span head right own k = absurd cc
+local_kept (ExprKind-F.Binary o x y) a v span head right own k = absurd cc
+local_kept (ExprKind-F.Old e) a v span head right own k = absurd cc
+local_kept (ExprKind-F.Perm e part whole amount) a v span head right own k = absurd cc
+local_kept (ExprKind-F.Token t e) a v span head right own k = absurd cc
+local_kept (ExprKind-F.Instance target w args) a v span head right own k = absurd cc
+local_kept (ExprKind-F.Each q) a v span head right own k = absurd cc
 
-name_kept : (e : Expr) (a : Around) (v : Visible) (right : Right) → is_inner_local_kind v e.kind ≡ true → IsKept (core_of_target a v e) right
-name_kept e a v right k =
+name_kept : (e : Expr) (a : Around) (v : Visible) (head : List core.Parameter) (right : Right) → AreOwn v head
+    → is_inner_local_kind v e.kind ≡ true → IsOwnTarget head (core_of_target a v e) right
+name_kept e a v head right own k =
     let rolled : (piece_of e).expression a v ≡ (piece_in_kind (layer_of (out-ExprKind e.kind))).expression e.span a v =
-    ap (λ (p : Piece). p.expression a v) (piece_rolled e) ∙ ap (λ (k : KindPiece). k.expression e.span a v) (kind_rolled e.kind) in
-    subst (λ x. IsKept (target_of x) right) (sym rolled) (local_kept (out-ExprKind e.kind) a v e.span right (sym (as_layer v e.kind) ∙ k))
+    ap (λ (p : Piece). p.expression a v) (piece_rolled e)
+    ∙ ap (λ (k : KindPiece). k.expression e.span a v) (kind_rolled e.kind) in
+    subst (λ x. IsOwnTarget head (target_of x) right) (sym rolled)
+    (local_kept (out-ExprKind e.kind) a v e.span head right own (sym (as_layer v e.kind) ∙ k))
 
 -- a left side without a fault
-pub target_kept : (e : Expr) (h : Home) (a : Around) (v : Visible) (xs : List core.Parameter) (right : Right) → Place h a v xs → Clean (faults_of_expression a v Anything e) → quantifiers_in e ≡ [] → is_assignable a v e ≡ true
-    → IsKept (core_of_target a v e) right
-target_kept e h a v xs right place clean none assignable = by ((part_of e).seen a v).location refl assignable
+pub target_kept : (e : Expr) (h : Home) (a : Around) (v : Visible) (xs head : List core.Parameter) (right : Right)
+    → Place h a v xs → AreOwn v head
+    → Clean (faults_of_expression a v Anything e) → quantifiers_in e ≡ [] → is_assignable a v e ≡ true
+    → IsOwnTarget head (core_of_target a v e) right
+target_kept e h a v xs head right place own clean none assignable = by ((part_of e).seen a v).location refl assignable
   where
-    by : (b : Bool) → ((part_of e).seen a v).location ≡ b → (b || is_inner_local_kind v e.kind) ≡ true → IsKept (core_of_target a v e) right
+    by : (b : Bool) → ((part_of e).seen a v).location ≡ b → (b || is_inner_local_kind v e.kind) ≡ true
+        → IsOwnTarget head (core_of_target a v e) right
     by true is k =
-        place_kept (core_of_expression a v e) right ((fits e h silent a v xs in_statement Anything place (statement_strict a) clean none).place (ap (λ (p : Part). (p.seen a v).location) (part_in_piece e) ∙ is))
-    by false is k = name_kept e a v right k
+        let is_place : IsPlace (core_of_expression a v e) =
+        (fits e h silent a v xs in_statement Anything place (statement_strict a) clean none).place
+        (ap (λ (p : Part). (p.seen a v).location) (part_in_piece e) ∙ is) in
+        (place_kept (core_of_expression a v e) right is_place, place_own (core_of_expression a v e) head is_place)
+    by false is k = name_kept e a v head right own k

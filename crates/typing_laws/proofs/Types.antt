@@ -13,7 +13,7 @@ use Rattle.pv_rules.specs.Lookup.{is_declared_type}
 use Rattle.pv_rules.specs.Typing.{is_int, is_truth, is_int_array, is_truth_array, is_null, same_type, fits, meets, typed_if, typing_of_equality, typing_of_element}
 use Rattle.pv_meaning.specs.Values.{array_of}
 use Rattle.pv_picks.specs.Names.{class_at, elements_of}
-use Rattle.typed_programs.specs.Expressions.{is_reference, IsElement}
+use Rattle.typed_programs.specs.Expressions.{is_reference, IsElement, IsDeclared}
 
 pub same_name : (a b : Name) → nat_eq a.0 b.0 ≡ true → a ≡ b
 same_name a b h = let e : a.0 ≡ b.0 = eqb-true a.0 b.0 h in ap (λ n. record { 0 = n }) e
@@ -111,14 +111,24 @@ not_null classes IntArray h = refl
 not_null classes TruthArray h = refl
 not_null classes Null h = absurd cc
 
-pub wanted : (need : PvType) (t : Typing) → meets (Exactly need) t ≡ true → (type : PvType) × (t ≡ Typed type) × (fits need type ≡ true)
+pub declared_type : (classes : List Class) (type : PvType) → is_declared_type classes type ≡ true → IsDeclared type
+declared_type classes Int h = tt
+declared_type classes Truth h = tt
+declared_type classes (Object c) h = tt
+declared_type classes IntArray h = tt
+declared_type classes TruthArray h = tt
+declared_type classes Null h = absurd cc
+
+pub wanted : (need : PvType) (t : Typing) → meets (Exactly need) t ≡ true → (type : PvType) × (t ≡ Typed type)
+    × (fits need type ≡ true)
 wanted need Unsettled h = absurd cc
 wanted need Untyped h = absurd cc
 wanted need (Typed type) h = (type, refl, h)
 
 -- Parts of operations
 
-pub typed_if_wanted : (b : Bool) (type need : PvType) → is_null type ≡ false → meets (Exactly need) (typed_if b type) ≡ true → (b ≡ true) × (need ≡ type)
+pub typed_if_wanted : (b : Bool) (type need : PvType) → is_null type ≡ false → meets (Exactly need) (typed_if b type) ≡ true
+    → (b ≡ true) × (need ≡ type)
 typed_if_wanted true type need n h = (refl, exact need type n h)
 typed_if_wanted false type need n h = absurd cc
 
@@ -128,7 +138,8 @@ pub record Comparable (x y : Typing) (need : PvType) : Type 0 where
   pub right : meets (Exactly type) y ≡ true
   pub truth : need ≡ Truth
 
-comparable : (a b need : PvType) (f g : Bool) → fits a b ≡ f → fits b a ≡ g → meets (Exactly need) (if f || g then Typed Truth else Untyped) ≡ true → Comparable (Typed a) (Typed b) need
+comparable : (a b need : PvType) (f g : Bool) → fits a b ≡ f → fits b a ≡ g
+    → meets (Exactly need) (if f || g then Typed Truth else Untyped) ≡ true → Comparable (Typed a) (Typed b) need
 comparable a b need true g l r h = record { type = a; left = itself a; right = l; truth = exact need Truth refl h }
 comparable a b need false true l r h = record { type = b; left = r; right = itself b; truth = exact need Truth refl h }
 comparable a b need false false l r h = absurd cc
@@ -154,9 +165,12 @@ array_wanted (Typed Null) h = absurd cc
 array_wanted Unsettled h = absurd cc
 array_wanted Untyped h = absurd cc
 
-pub element_wanted : (t i : Typing) (need : PvType) → meets (Exactly need) (typing_of_element t i) ≡ true → IsArray t × (meets (Exactly Int) i ≡ true) × (need ≡ elements_of t)
-element_wanted (Typed IntArray) i need h = let k = typed_if_wanted (meets (Exactly Int) i) Int need refl h in ((inl refl, refl), k.0, k.1)
-element_wanted (Typed TruthArray) i need h = let k = typed_if_wanted (meets (Exactly Int) i) Truth need refl h in ((inr refl, refl), k.0, k.1)
+pub element_wanted : (t i : Typing) (need : PvType) → meets (Exactly need) (typing_of_element t i) ≡ true → IsArray t
+    × (meets (Exactly Int) i ≡ true) × (need ≡ elements_of t)
+element_wanted (Typed IntArray) i need h =
+    let k = typed_if_wanted (meets (Exactly Int) i) Int need refl h in ((inl refl, refl), k.0, k.1)
+element_wanted (Typed TruthArray) i need h =
+    let k = typed_if_wanted (meets (Exactly Int) i) Truth need refl h in ((inr refl, refl), k.0, k.1)
 element_wanted (Typed Int) i need h = absurd cc
 element_wanted (Typed Truth) i need h = absurd cc
 element_wanted (Typed (Object c)) i need h = absurd cc

@@ -55,43 +55,57 @@ use Rattle.typing_laws.proofs.Expressions.{Fits, expression_law, class_here, no_
 -- Expressions in strict contexts
 
 -- a part without a fault has a type that is needed
-meets_in : (e : Expr) (h : Home) (a : Around) (v : Visible) (xs : List core.Parameter) (c : Context) (need : Need) → Place h a v xs → Clean ((part_of e).faults a v c need) → typing.meets need (typing_in (piece_of e).part a v) ≡ true
-meets_in e h a v xs c need place clean = (kept e h.program (names_of xs) a v c need place.sound (knows_all c.locals v (names_of xs) (listed_known v xs place.listed)) clean).0
+meets_in : (e : Expr) (h : Home) (a : Around) (v : Visible) (xs : List core.Parameter) (c : Context) (need : Need)
+    → Place h a v xs → Clean ((part_of e).faults a v c need) → typing.meets need (typing_in (piece_of e).part a v) ≡ true
+meets_in e h a v xs c need place clean = (kept e h.program (names_of xs) a v c need place.sound
+    (knows_all c.locals v (names_of xs) (listed_known v xs place.listed)) clean).0
 
-pub meets_need : (e : Expr) (h : Home) (a : Around) (v : Visible) (xs : List core.Parameter) (need : Need) → Place h a v xs → Clean (faults_of_expression a v need e) → typing.meets need (typing_in (piece_of e).part a v) ≡ true
+pub meets_need : (e : Expr) (h : Home) (a : Around) (v : Visible) (xs : List core.Parameter) (need : Need) → Place h a v xs
+    → Clean (faults_of_expression a v need e) → typing.meets need (typing_in (piece_of e).part a v) ≡ true
 meets_need e h a v xs need place clean = meets_in e h a v xs in_statement need place clean
 
-as_part : (e : Expr) (a : Around) (v : Visible) (need : Need) → typing.meets need (typing_in (piece_of e).part a v) ≡ true → typing.meets need (typing_in (part_of e) a v) ≡ true
+as_part : (e : Expr) (a : Around) (v : Visible) (need : Need) → typing.meets need (typing_in (piece_of e).part a v) ≡ true
+    → typing.meets need (typing_in (part_of e) a v) ≡ true
 as_part e a v need m = subst (λ (p : Part). typing.meets need (typing_in p a v) ≡ true) (part_in_piece e) m
 
-pub fits : (e : Expr) (h : Home) (speech : Speech) (a : Around) (v : Visible) (xs : List core.Parameter) (c : Context) (need : Need) → Place h a v xs → Strict speech a c → Clean ((part_of e).faults a v c need) → quantifiers_in e ≡ []
+pub fits : (e : Expr) (h : Home) (speech : Speech) (a : Around) (v : Visible) (xs : List core.Parameter) (c : Context)
+    (need : Need) → Place h a v xs → Strict speech a c → Clean ((part_of e).faults a v c need) → quantifiers_in e ≡ []
     → Fits h speech a xs ((piece_of e).part.seen a v) (core_of_expression a v e)
 fits e h speech a v xs c need place strict clean none =
-    let clean_piece : Clean ((piece_of e).part.faults a v c need) = subst (λ (p : Part). Clean (p.faults a v c need)) (sym (part_in_piece e)) clean in
+    let clean_piece : Clean ((piece_of e).part.faults a v c need) =
+    subst (λ (p : Part). Clean (p.faults a v c need)) (sym (part_in_piece e)) clean in
     expression_law e h speech a v xs c need place strict.speaks clean_piece
-    (solid_pure e h a v xs c need place clean_piece (purely strict.pure (ap (λ (s : Shape). s.quantifiers) (shape_in_piece e) ∙ none)))
+    (solid_pure e h a v xs c need place clean_piece (purely strict.pure
+    (ap (λ (s : Shape). s.quantifiers) (shape_in_piece e) ∙ none)))
 
-goes_in : (e : Expr) (h : Home) (speech : Speech) (a : Around) (v : Visible) (xs : List core.Parameter) (c : Context) (type : PvType) → Place h a v xs → Strict speech a c → Clean ((part_of e).faults a v c (Exactly type)) → quantifiers_in e ≡ []
+goes_in : (e : Expr) (h : Home) (speech : Speech) (a : Around) (v : Visible) (xs : List core.Parameter) (c : Context)
+    (type : PvType) → Place h a v xs → Strict speech a c → Clean ((part_of e).faults a v c (Exactly type)) → quantifiers_in e ≡ []
     → Says h speech xs (core_of_expression a v e) type
-goes_in e h speech a v xs c type place strict clean none = (fits e h speech a v xs c (Exactly type) place strict clean none).goes type (meets_in e h a v xs c (Exactly type) place clean)
+goes_in e h speech a v xs c type place strict clean none =
+    (fits e h speech a v xs c (Exactly type) place strict clean none).goes type (meets_in e h a v xs c (Exactly type) place clean)
 
-pub goes : (e : Expr) (h : Home) (a : Around) (v : Visible) (xs : List core.Parameter) (type : PvType) → Place h a v xs → Clean (faults_of_expression a v (Exactly type) e) → quantifiers_in e ≡ []
+pub goes : (e : Expr) (h : Home) (a : Around) (v : Visible) (xs : List core.Parameter) (type : PvType) → Place h a v xs
+    → Clean (faults_of_expression a v (Exactly type) e) → quantifiers_in e ≡ []
     → IsOf h xs (core_of_expression a v e) type
 goes e h a v xs type place clean none = goes_in e h silent a v xs in_statement type place (statement_strict a) clean none
 
-object_in : (e : Expr) (h : Home) (speech : Speech) (a : Around) (v : Visible) (xs : List core.Parameter) (c : Context) → Place h a v xs → Strict speech a c → Clean ((part_of e).faults a v c AnObject) → quantifiers_in e ≡ []
+object_in : (e : Expr) (h : Home) (speech : Speech) (a : Around) (v : Visible) (xs : List core.Parameter) (c : Context)
+    → Place h a v xs → Strict speech a c → Clean ((part_of e).faults a v c AnObject) → quantifiers_in e ≡ []
     → Says h speech xs (core_of_expression a v e) (Object (class_at (typing_in (piece_of e).part a v)))
 object_in e h speech a v xs c place strict clean none =
     let t : Typing = typing_in (piece_of e).part a v in
-    (fits e h speech a v xs c AnObject place strict clean none).goes (Object (class_at t)) (object_wanted t (meets_in e h a v xs c AnObject place clean))
+    (fits e h speech a v xs c AnObject place strict clean none).goes (Object (class_at t))
+    (object_wanted t (meets_in e h a v xs c AnObject place clean))
 
-pub object_goes : (e : Expr) (h : Home) (a : Around) (v : Visible) (xs : List core.Parameter) → Place h a v xs → Clean (faults_of_expression a v AnObject e) → quantifiers_in e ≡ []
+pub object_goes : (e : Expr) (h : Home) (a : Around) (v : Visible) (xs : List core.Parameter) → Place h a v xs
+    → Clean (faults_of_expression a v AnObject e) → quantifiers_in e ≡ []
     → IsOf h xs (core_of_expression a v e) (Object (class_at (typing_in (piece_of e).part a v)))
 object_goes e h a v xs place clean none = object_in e h silent a v xs in_statement place (statement_strict a) clean none
 
 -- Objects before the name of a method or predicate
 
-pub record ObjectAt (h : Home) (speech : Speech) (a : Around) (v : Visible) (xs : List core.Parameter) (target : Option Expr) : Type 0 where
+pub record ObjectAt (h : Home) (speech : Speech) (a : Around) (v : Visible) (xs : List core.Parameter)
+    (target : Option Expr) : Type 0 where
   pub class : Name
   pub holder : holder_of a (seen_of_target a v (part_of_option target)) ≡ among (members_of (class_named a.program.classes class))
   pub named : class_of_object (option_map piece_of target) a v ≡ class
@@ -110,14 +124,17 @@ object_typing Untyped k = absurd cc
 same_class : (a b : Name) → Typed (Object a) ≡ Typed (Object b) → a ≡ b
 same_class a b k = cc
 
-seen_holder : (h : Home) (a : Around) (v : Visible) (xs : List core.Parameter) (s : Seen) → Place h a v xs → (s.this ≡ true → s.typing ≡ Typed (Object a.class)) → typing.meets AnObject s.typing ≡ true
+seen_holder : (h : Home) (a : Around) (v : Visible) (xs : List core.Parameter) (s : Seen) → Place h a v xs
+    → (s.this ≡ true → s.typing ≡ Typed (Object a.class)) → typing.meets AnObject s.typing ≡ true
     → holder_of a s ≡ among (members_of (class_named a.program.classes (class_at s.typing)))
 seen_holder h a v xs s place this m =
     let typed : s.typing ≡ Typed (Object (class_at s.typing)) = object_typing s.typing m in
     ap (λ t. parts.holder_of_typing a s.this t) typed
-    ∙ ap (λ c. among (members_of c)) (class_here a s.this (class_at s.typing) place.sound.here (λ b. same_class _ _ (sym typed ∙ this b)))
+    ∙ ap (λ c. among (members_of c)) (class_here a s.this (class_at s.typing) place.sound.here
+    (λ b. same_class _ _ (sym typed ∙ this b)))
 
-pub object_at : (target : Option Expr) (h : Home) (speech : Speech) (a : Around) (v : Visible) (xs : List core.Parameter) (c : Context) → Place h a v xs → Strict speech a c → Clean (parts.faults_of_target a v c (part_of_option target))
+pub object_at : (target : Option Expr) (h : Home) (speech : Speech) (a : Around) (v : Visible) (xs : List core.Parameter)
+    (c : Context) → Place h a v xs → Strict speech a c → Clean (parts.faults_of_target a v c (part_of_option target))
     → quantifiers_in_option target ≡ [] → ObjectAt h speech a v xs target
 object_at None h speech a v xs c place strict clean none = record {
   class = a.class;
@@ -129,7 +146,10 @@ object_at (Some e) h speech a v xs c place strict clean none =
     let s : Seen = (piece_of e).part.seen a v in
     record {
       class = class_at s.typing;
-      holder = ap (λ (p : Part). holder_of a (p.seen a v)) (sym (part_in_piece e)) ∙ seen_holder h a v xs s place (fits e h speech a v xs c AnObject place strict clean none).this (meets_in e h a v xs c AnObject place clean);
+      holder =
+          ap (λ (p : Part). holder_of a (p.seen a v)) (sym (part_in_piece e))
+          ∙ seen_holder h a v xs s place (fits e h speech a v xs c AnObject place strict clean none).this
+          (meets_in e h a v xs c AnObject place clean);
       named = refl;
       goes = object_in e h speech a v xs c place strict clean none;
     }
@@ -142,14 +162,17 @@ zero≢suc k = cc
 suc_inj : {m n : ℕ} → suc m ≡ suc n → m ≡ n
 suc_inj k = cc
 
-pub arguments_go : (es : List Expr) (types : List PvType) (h : Home) (speech : Speech) (a : Around) (v : Visible) (xs : List core.Parameter) (c : Context) → Place h a v xs → Strict speech a c → length (parts_of es) ≡ length types
+pub arguments_go : (es : List Expr) (types : List PvType) (h : Home) (speech : Speech) (a : Around) (v : Visible)
+    (xs : List core.Parameter) (c : Context) → Place h a v xs → Strict speech a c → length (parts_of es) ≡ length types
     → Clean (faults_of_args (parts_of es) types a v c) → quantifiers_in_all es ≡ []
     → AllSay h speech xs (arguments_of (pieces_of es) a v) types × (args_meet (parts_of es) types a v ≡ true)
 arguments_go [] [] h speech a v xs c place strict count clean none = (tt, refl)
 arguments_go [] (type ∷ types) h speech a v xs c place strict count clean none = absurd (zero≢suc count)
 arguments_go (e ∷ es) [] h speech a v xs c place strict count clean none = absurd (zero≢suc (sym count))
 arguments_go (e ∷ es) (type ∷ types) h speech a v xs c place strict count clean none =
-    let rest = arguments_go es types h speech a v xs c place strict (suc_inj count) clean.1 (no_second (quantifiers_in e) (quantifiers_in_all es) none) in (
+    let rest =
+    arguments_go es types h speech a v xs c place strict (suc_inj count) clean.1
+    (no_second (quantifiers_in e) (quantifiers_in_all es) none) in (
       (goes_in e h speech a v xs c type place strict clean.0 (no_first (quantifiers_in e) (quantifiers_in_all es) none), rest.0),
       and_from _ _ (as_part e a v (Exactly type) (meets_in e h a v xs c (Exactly type) place clean.0)) rest.1,
     )
@@ -162,34 +185,45 @@ same_count m n k = eqb-true m n (not_false (nat_eq m n) k)
     not_false false i = absurd cc
 
 -- a use of a method: the one of the name among the members of the object's class, with arguments of its parameters' types
-pub record CallFits (h : Home) (a : Around) (v : Visible) (xs : List core.Parameter) (class : Name) (w : Word) (args : List Expr) : Type 0 where
+pub record CallFits (h : Home) (a : Around) (v : Visible) (xs : List core.Parameter) (class : Name) (w : Word)
+    (args : List Expr) : Type 0 where
   pub method : Method
   pub found : rules.method_named (members_of (class_named a.program.classes class)) w.name ≡ Some method
   pub arguments : AreOf h xs (arguments_of (pieces_of args) a v) (parts.types_of method.params)
   pub meet : args_meet (parts_of args) (parts.types_of method.params) a v ≡ true
 
-call_fits : (o : Option Method) (h : Home) (a : Around) (v : Visible) (xs : List core.Parameter) (class : Name) (w : Word) (args : List Expr) → rules.method_named (members_of (class_named a.program.classes class)) w.name ≡ o
-    → Place h a v xs → Clean (faults_of_use w (parts_of args) (signature_of_method o) a v in_statement) → quantifiers_in_all args ≡ [] → CallFits h a v xs class w args
+call_fits : (o : Option Method) (h : Home) (a : Around) (v : Visible) (xs : List core.Parameter) (class : Name) (w : Word)
+    (args : List Expr) → rules.method_named (members_of (class_named a.program.classes class)) w.name ≡ o
+    → Place h a v xs → Clean (faults_of_use w (parts_of args) (signature_of_method o) a v in_statement) → quantifiers_in_all args
+    ≡ [] → CallFits h a v xs class w args
 call_fits None h a v xs class w args is place clean none = absurd clean.0
 call_fits (Some m) h a v xs class w args is place clean none =
-    let all = arguments_go args (parts.types_of m.params) h silent a v xs in_statement place (statement_strict a) (same_count _ _ (if_fails _ rule.WrongCount w.span clean.1.1)) clean.1.0 none in
+    let all =
+    arguments_go args (parts.types_of m.params) h silent a v xs in_statement place (statement_strict a)
+    (same_count _ _ (if_fails _ rule.WrongCount w.span clean.1.1)) clean.1.0 none in
     record { method = m; found = is; arguments = all.0; meet = all.1 }
 
-pub call_at : (target : Option Expr) (w : Word) (args : List Expr) (h : Home) (a : Around) (v : Visible) (xs : List core.Parameter) → (o : ObjectAt h silent a v xs target) → Place h a v xs
-    → Clean (parts.faults_of_method_use (seen_of_target a v (part_of_option target)) w (parts_of args) a v in_statement) → quantifiers_in_all args ≡ [] → CallFits h a v xs o.class w args
+pub call_at : (target : Option Expr) (w : Word) (args : List Expr) (h : Home) (a : Around) (v : Visible)
+    (xs : List core.Parameter) → (o : ObjectAt h silent a v xs target) → Place h a v xs
+    → Clean (parts.faults_of_method_use (seen_of_target a v (part_of_option target)) w (parts_of args) a v in_statement)
+    → quantifiers_in_all args ≡ [] → CallFits h a v xs o.class w args
 call_at target w args h a v xs o place clean none =
     call_fits (rules.method_named (members_of (class_named a.program.classes o.class)) w.name) h a v xs o.class w args refl place
-    (subst (λ (x : Holder). Clean (faults_of_use w (parts_of args) (method_signature x w.name) a v in_statement)) o.holder clean) none
+    (subst (λ (x : Holder). Clean (faults_of_use w (parts_of args) (method_signature x w.name) a v in_statement)) o.holder clean)
+    none
 
 -- a use of a predicate: the one of the name that the object's class has, with arguments of its parameters' types
-pub record InstanceFits (h : Home) (speech : Speech) (a : Around) (v : Visible) (xs : List core.Parameter) (class : Name) (w : Word) (args : List Expr) : Type 0 where
+pub record InstanceFits (h : Home) (speech : Speech) (a : Around) (v : Visible) (xs : List core.Parameter) (class : Name)
+    (w : Word) (args : List Expr) : Type 0 where
   pub predicate : core.Predicate
   pub found : predicate_named h.program class w.name ≡ Some predicate
   pub arguments : AllSay h speech xs (arguments_of (pieces_of args) a v) (types_of predicate.parameters)
 
-instance_fits : (o : Option Predicate) (h : Home) (speech : Speech) (a : Around) (v : Visible) (xs : List core.Parameter) (c : Context) (class : Name) (w : Word) (args : List Expr)
+instance_fits : (o : Option Predicate) (h : Home) (speech : Speech) (a : Around) (v : Visible) (xs : List core.Parameter)
+    (c : Context) (class : Name) (w : Word) (args : List Expr)
     → rules.predicate_named (members_of (class_named a.program.classes class)) w.name ≡ o → Place h a v xs → Strict speech a c
-    → Clean (faults_of_use w (parts_of args) (signature_of_predicate o) a v c) → quantifiers_in_all args ≡ [] → InstanceFits h speech a v xs class w args
+    → Clean (faults_of_use w (parts_of args) (signature_of_predicate o) a v c) → quantifiers_in_all args ≡ []
+    → InstanceFits h speech a v xs class w args
 instance_fits None h speech a v xs c class w args is place strict clean none = absurd clean.0
 instance_fits (Some q) h speech a v xs c class w args is place strict clean none =
     let there = place.declares.predicates class w.name q is in
@@ -197,76 +231,104 @@ instance_fits (Some q) h speech a v xs c class w args is place strict clean none
       predicate = there.there;
       found = there.found;
       arguments = subst (λ types. AllSay h speech xs (arguments_of (pieces_of args) a v) types) (sym there.types)
-          (arguments_go args (parts.types_of q.params) h speech a v xs c place strict (same_count _ _ (if_fails _ rule.WrongCount w.span clean.1.1)) clean.1.0 none).0;
+          (arguments_go args (parts.types_of q.params) h speech a v xs c place strict
+          (same_count _ _ (if_fails _ rule.WrongCount w.span clean.1.1)) clean.1.0 none).0;
     }
 
-pub instance_at : (target : Option Expr) (w : Word) (args : List Expr) (h : Home) (speech : Speech) (a : Around) (v : Visible) (xs : List core.Parameter) (c : Context) → (o : ObjectAt h speech a v xs target) → Place h a v xs → Strict speech a c
-    → Clean (parts.faults_of_predicate_use (seen_of_target a v (part_of_option target)) w (parts_of args) a v c) → quantifiers_in_all args ≡ []
+pub instance_at : (target : Option Expr) (w : Word) (args : List Expr) (h : Home) (speech : Speech) (a : Around) (v : Visible)
+    (xs : List core.Parameter) (c : Context) → (o : ObjectAt h speech a v xs target) → Place h a v xs → Strict speech a c
+    → Clean (parts.faults_of_predicate_use (seen_of_target a v (part_of_option target)) w (parts_of args) a v c)
+    → quantifiers_in_all args ≡ []
     → InstanceFits h speech a v xs o.class w args
 instance_at target w args h speech a v xs c o place strict clean none =
-    instance_fits (rules.predicate_named (members_of (class_named a.program.classes o.class)) w.name) h speech a v xs c o.class w args refl place strict
+    instance_fits (rules.predicate_named (members_of (class_named a.program.classes o.class)) w.name) h speech a v xs c o.class w
+    args refl place strict
     (subst (λ (x : Holder). Clean (faults_of_use w (parts_of args) (predicate_signature x w.name) a v c)) o.holder clean) none
 
 -- Calls
 
 -- a method that is called, in the plain tree
-pub record CalledAt (h : Home) (a : Around) (v : Visible) (xs : List core.Parameter) (class : Name) (w : Word) (args : List Expr) (m : Method) : Type 0 where
+pub record CalledAt (h : Home) (a : Around) (v : Visible) (xs : List core.Parameter) (class : Name) (w : Word) (args : List Expr)
+    (m : Method) : Type 0 where
   pub method : core.Method
   pub found : method_named h.program class w.name ≡ Some method
   pub arguments : AreOf h xs (arguments_of (pieces_of args) a v) (types_of method.parameters)
   pub result : method.result ≡ option_type m.result
 
-called : (h : Home) (a : Around) (v : Visible) (xs : List core.Parameter) (class : Name) (w : Word) (args : List Expr) → Place h a v xs → (c : CallFits h a v xs class w args) → CalledAt h a v xs class w args c.method
+called : (h : Home) (a : Around) (v : Visible) (xs : List core.Parameter) (class : Name) (w : Word) (args : List Expr)
+    → Place h a v xs → (c : CallFits h a v xs class w args) → CalledAt h a v xs class w args c.method
 called h a v xs class w args place c =
     let m = place.declares.methods class w.name c.method c.found in
-    record { method = m.there; found = m.found; arguments = subst (λ types. AreOf h xs (arguments_of (pieces_of args) a v) types) (sym m.types) c.arguments; result = m.result }
+    record {
+      method = m.there;
+      found = m.found;
+      arguments = subst (λ types. AreOf h xs (arguments_of (pieces_of args) a v) types)
+          (sym m.types) c.arguments;
+      result = m.result;
+    }
 
 -- a call whose result is of no interest
-pub call_goes : (target : Option Expr) (w : Word) (args : List Expr) (h : Home) (a : Around) (v : Visible) (xs : List core.Parameter) → Place h a v xs
-    → Clean (parts.faults_of_call (part_of_option target) w (parts_of args) a v in_statement) → quantifiers_in_option target ≡ [] → quantifiers_in_all args ≡ []
+pub call_goes : (target : Option Expr) (w : Word) (args : List Expr) (h : Home) (a : Around) (v : Visible)
+    (xs : List core.Parameter) → Place h a v xs
+    → Clean (parts.faults_of_call (part_of_option target) w (parts_of args) a v in_statement) → quantifiers_in_option target ≡ []
+    → quantifiers_in_all args ≡ []
     → (type : PvType) × RightFits h xs (core_of_call a v target w args) type
 call_goes target w args h a v xs place clean none none_there =
     let o = object_at target h silent a v xs in_statement place (statement_strict a) clean.0 none in
-    let c = called h a v xs o.class w args place (call_at target w args h a v xs o place clean.1 none_there) in
-    (answer_of c.method, subst (λ class. RightFits h xs (core.Call class w.name (object_of (option_map piece_of target) a v) (arguments_of (pieces_of args) a v)) (answer_of c.method)) (sym o.named) (o.goes, (c.method, c.found, c.arguments, refl)))
+    let c = called h a v xs o.class w args place (call_at target w args h a v xs o place clean.1 none_there) in (
+      answer_of c.method,
+      subst (λ class. RightFits h xs
+          (core.Call class w.name (object_of (option_map piece_of target) a v) (arguments_of (pieces_of args) a v))
+          (answer_of c.method)) (sym o.named) (o.goes, (c.method, c.found, c.arguments, refl)),
+    )
 
 -- the result of a method where a type is wanted
-result_goes : (o : Option PvType) (need : PvType) (span : Span) (classes : List Class) → ((type : PvType) → o ≡ Some type → is_declared_type classes type ≡ true) → Clean (typing.wrong_type (Exactly need) (typing.typing_or Untyped o) span)
+result_goes : (o : Option PvType) (need : PvType) (span : Span) (classes : List Class)
+    → ((type : PvType) → o ≡ Some type → is_declared_type classes type ≡ true)
+    → Clean (typing.wrong_type (Exactly need) (typing.typing_or Untyped o) span)
     → need ≡ unwrap_or o Null
 result_goes None need span classes declared clean = absurd clean
-result_goes (Some type) need span classes declared clean = exact need type (not_null classes type (declared type refl)) (unless_holds _ rule.WrongType span clean)
+result_goes (Some type) need span classes declared clean =
+    exact need type (not_null classes type (declared type refl)) (unless_holds _ rule.WrongType span clean)
 
 typing_if : (b : Bool) (t u : Typing) → b ≡ true → (if b then t else u) ≡ t
 typing_if true t u k = refl
 typing_if false t u k = absurd cc
 
-call_typing : (target : Option Expr) (w : Word) (args : List Expr) (h : Home) (a : Around) (v : Visible) (xs : List core.Parameter) (o : ObjectAt h silent a v xs target) (c : CallFits h a v xs o.class w args)
+call_typing : (target : Option Expr) (w : Word) (args : List Expr) (h : Home) (a : Around) (v : Visible)
+    (xs : List core.Parameter) (o : ObjectAt h silent a v xs target) (c : CallFits h a v xs o.class w args)
     → typing_of_right_kind a v (right.Call target w args) ≡ typing.typing_or Untyped (option_type c.method.result)
 call_typing target w args h a v xs o c =
     ap (λ holder. typing_of_call a v (parts_of args) (method_in holder w.name)) o.holder
     ∙ ap (typing_of_call a v (parts_of args)) c.found
     ∙ typing_if (args_meet (parts_of args) (parts.types_of c.method.params) a v) _ Unsettled c.meet
 
-call_right : (target : Option Expr) (w : Word) (args : List Expr) (h : Home) (a : Around) (v : Visible) (xs : List core.Parameter) (need : PvType) (span : Span) → Place h a v xs
-    → Clean (parts.faults_of_call (part_of_option target) w (parts_of args) a v in_statement) → Clean (typing.wrong_type (Exactly need) (typing_of_right_kind a v (right.Call target w args)) span)
+call_right : (target : Option Expr) (w : Word) (args : List Expr) (h : Home) (a : Around) (v : Visible) (xs : List core.Parameter)
+    (need : PvType) (span : Span) → Place h a v xs
+    → Clean (parts.faults_of_call (part_of_option target) w (parts_of args) a v in_statement)
+    → Clean (typing.wrong_type (Exactly need) (typing_of_right_kind a v (right.Call target w args)) span)
     → quantifiers_in_option target ≡ [] → quantifiers_in_all args ≡ [] → RightFits h xs (core_of_call a v target w args) need
 call_right target w args h a v xs need span place clean type none none_there =
     let o = object_at target h silent a v xs in_statement place (statement_strict a) clean.0 none in
     let fit = call_at target w args h a v xs o place clean.1 none_there in
     let c = called h a v xs o.class w args place fit in
     let wanted : need ≡ unwrap_or (option_type fit.method.result) Null =
-    result_goes (option_type fit.method.result) need span a.program.classes (λ t. place.declares.results o.class w.name fit.method t fit.found)
+    result_goes (option_type fit.method.result) need span a.program.classes
+    (λ t. place.declares.results o.class w.name fit.method t fit.found)
     (subst (λ (t : Typing). Clean (typing.wrong_type (Exactly need) t span)) (call_typing target w args h a v xs o fit) type) in
-    subst (λ class. RightFits h xs (core.Call class w.name (object_of (option_map piece_of target) a v) (arguments_of (pieces_of args) a v)) need) (sym o.named)
+    subst (λ class. RightFits h xs (core.Call class w.name (object_of (option_map piece_of target) a v)
+    (arguments_of (pieces_of args) a v)) need) (sym o.named)
     (o.goes, (c.method, c.found, c.arguments, wanted ∙ ap (λ r. unwrap_or r Null) (sym c.result)))
 
 -- Right sides
 
-object_right : (b : Bool) (class : Name) (need : PvType) (span at : Span) → Clean (broken_unless b rule.UnknownName at) → Clean (typing.wrong_type (Exactly need) (typing.typed_if b (Object class)) span) → need ≡ Object class
+object_right : (b : Bool) (class : Name) (need : PvType) (span at : Span) → Clean (broken_unless b rule.UnknownName at)
+    → Clean (typing.wrong_type (Exactly need) (typing.typed_if b (Object class)) span) → need ≡ Object class
 object_right true class need span at known clean = exact need (Object class) refl (unless_holds _ rule.WrongType span clean)
 object_right false class need span at known clean = absurd known
 
-array_right : (type need : PvType) (span : Span) → Clean (typing.wrong_type (Exactly need) (typing_of_array type) span) → IsElement type × (need ≡ array_of type)
+array_right : (type need : PvType) (span : Span) → Clean (typing.wrong_type (Exactly need) (typing_of_array type) span)
+    → IsElement type × (need ≡ array_of type)
 array_right Int need span clean = (inl refl, exact need IntArray refl (unless_holds _ rule.WrongType span clean))
 array_right Truth need span clean = (inr refl, exact need TruthArray refl (unless_holds _ rule.WrongType span clean))
 array_right (Object class) need span clean = absurd clean
@@ -274,18 +336,26 @@ array_right IntArray need span clean = absurd clean
 array_right TruthArray need span clean = absurd clean
 array_right Null need span clean = absurd clean
 
-pub right_goes : (k : RightKind) (h : Home) (a : Around) (v : Visible) (xs : List core.Parameter) (need : PvType) (span : Span) → Place h a v xs → Clean (faults_of_right_kind a v (Exactly need) span k) → quantifiers_in_right_kind k ≡ []
+pub right_goes : (k : RightKind) (h : Home) (a : Around) (v : Visible) (xs : List core.Parameter) (need : PvType) (span : Span)
+    → Place h a v xs → Clean (faults_of_right_kind a v (Exactly need) span k) → quantifiers_in_right_kind k ≡ []
     → RightFits h xs (core_of_right_kind a v k) need
 right_goes (right.Value e) h a v xs need span place clean none = goes e h a v xs need place clean none
 right_goes (right.Call target w args) h a v xs need span place clean none =
-    call_right target w args h a v xs need span place clean.0 clean.1 (no_first (quantifiers_in_option target) (quantifiers_in_all args) none) (no_second (quantifiers_in_option target) (quantifiers_in_all args) none)
-right_goes (right.NewObject w) h a v xs need span place clean none = object_right (is_class a w.name) w.name need span w.span clean.0 clean.1
+    call_right target w args h a v xs need span place clean.0 clean.1
+    (no_first (quantifiers_in_option target) (quantifiers_in_all args) none)
+    (no_second (quantifiers_in_option target) (quantifiers_in_all args) none)
+right_goes (right.NewObject w) h a v xs need span place clean none =
+    object_right (is_class a w.name) w.name need span w.span clean.0 clean.1
 right_goes (right.NewArray type e) h a v xs need span place clean none =
-    let size : typing.meets (Exactly Int) (typing_in (part_of e) a v) ≡ true = as_part e a v (Exactly Int) (meets_need e h a v xs (Exactly Int) place clean.0) in
-    let array = array_right type.kind need span (subst (λ (t : Typing). Clean (typing.wrong_type (Exactly need) t span)) (typing_if _ (typing_of_array type.kind) Unsettled size) clean.1) in
+    let size : typing.meets (Exactly Int) (typing_in (part_of e) a v) ≡ true =
+    as_part e a v (Exactly Int) (meets_need e h a v xs (Exactly Int) place clean.0) in
+    let array =
+    array_right type.kind need span (subst (λ (t : Typing). Clean (typing.wrong_type (Exactly need) t span))
+    (typing_if _ (typing_of_array type.kind) Unsettled size) clean.1) in
     (goes e h a v xs Int place clean.0 none, array.0, array.1)
 
-default_goes : (h : Home) (xs : List core.Parameter) (type : PvType) → RightFits h xs (core.Value' (core.Constant (default_of type))) type
+default_goes : (h : Home) (xs : List core.Parameter) (type : PvType)
+    → RightFits h xs (core.Value' (core.Constant (default_of type))) type
 default_goes h xs Int = refl
 default_goes h xs Truth = refl
 default_goes h xs (Object class) = refl
@@ -294,14 +364,16 @@ default_goes h xs TruthArray = refl
 default_goes h xs Null = refl
 
 -- the first value of a local
-pub first_goes : (o : Option Right) (h : Home) (a : Around) (v : Visible) (xs : List core.Parameter) (type : PvType) → Place h a v xs → Clean (faults_of_first_value a v (Exactly type) o) → quantifiers_in_right_option o ≡ []
+pub first_goes : (o : Option Right) (h : Home) (a : Around) (v : Visible) (xs : List core.Parameter) (type : PvType)
+    → Place h a v xs → Clean (faults_of_first_value a v (Exactly type) o) → quantifiers_in_right_option o ≡ []
     → RightFits h xs (first_value a v type o) type
 first_goes None h a v xs type place clean none = default_goes h xs type
 first_goes (Some r) h a v xs type place clean none = right_goes r.kind h a v xs type r.span place clean none
 
 -- Targets
 
-target_fits : (h : Home) (xs : List core.Parameter) (e : Expression) (type : PvType) → IsOf h xs e type → TargetFits h xs (target_of e) type
+target_fits : (h : Home) (xs : List core.Parameter) (e : Expression) (type : PvType) → IsOf h xs e type
+    → TargetFits h xs (target_of e) type
 target_fits h xs (core.Variable name) type k = k
 target_fits h xs (core.Field e class field span) type k = k
 target_fits h xs (core.Element element e i span) type k = k
@@ -329,11 +401,15 @@ typed_place (Typed type) m = (type, refl)
 typed_place Unsettled m = absurd cc
 typed_place Untyped m = absurd cc
 
-pub target_at : (e : Expr) (h : Home) (a : Around) (v : Visible) (xs : List core.Parameter) → Place h a v xs → Clean (faults_of_expression a v Anything e) → quantifiers_in e ≡ [] → TargetAt h a v xs e
+pub target_at : (e : Expr) (h : Home) (a : Around) (v : Visible) (xs : List core.Parameter) → Place h a v xs
+    → Clean (faults_of_expression a v Anything e) → quantifiers_in e ≡ [] → TargetAt h a v xs e
 target_at e h a v xs place clean none =
     let t = typed_place (typing_in (piece_of e).part a v) (meets_need e h a v xs Anything place clean) in
     record {
       type = t.0;
       need = ap (λ (p : Part). need_like (typing_in p a v)) (sym (part_in_piece e)) ∙ ap need_like t.1;
-      target = target_fits h xs (core_of_expression a v e) t.0 ((fits e h silent a v xs in_statement Anything place (statement_strict a) clean none).goes t.0 (ap (typing.meets (Exactly t.0)) t.1 ∙ itself t.0));
+      target =
+          target_fits h xs (core_of_expression a v e) t.0
+          ((fits e h silent a v xs in_statement Anything place (statement_strict a) clean none).goes t.0
+          (ap (typing.meets (Exactly t.0)) t.1 ∙ itself t.0));
     }

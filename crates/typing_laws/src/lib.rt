@@ -10,6 +10,7 @@ ghost use Rattle.pv_picks.specs.Programs.{core_of};
 ghost use Rattle.machine_laws.specs.Typed.{IsTypedHeap};
 ghost use Rattle.typed_programs.specs.Blocks.{ProgramFits};
 ghost use Rattle.typing_laws.specs.Formulas.{FormulasFit};
+ghost use Rattle.typing_laws.specs.Programs.{IsTypedThroughout};
 
 /// What a well formed program becomes is well typed: its methods and each `run`.
 pub fn well_formed_programs_are_typed()
@@ -19,6 +20,14 @@ pub fn well_formed_programs_are_typed()
 /// Each formula of what a well formed program becomes is well typed: in contracts, predicates, lock invariants and statements.
 pub fn formulas_of_well_formed_programs_are_typed()
     ensures { (p : Program) → IsWellFormed p → FormulasFit (core_of p) }
+{}
+
+/// In what a well formed program becomes, all that is found by its name is well typed, with its formulas: fields have types that are
+/// declared; predicates, methods and each `run` speak of their parameters, a method's `ensures` of its result too, and lock invariants
+/// of fields alone. Terms that are read once for all positions are typed without the position; amounts are of at least one unit and
+/// at most the whole; what is folded, called, forked, locked or spoken of by a token is declared.
+pub fn well_formed_programs_are_typed_throughout()
+    ensures { (p : Program) → IsWellFormed p → IsTypedThroughout (core_of p) }
 {}
 
 /// On the machine the heap of each world that a well formed program reaches is well typed: a step keeps it so.

@@ -1,5 +1,5 @@
-use Rattle.typed_programs.proofs.Reached.{reached-fits}
+use Rattle.typed_programs.proofs.Reached.{reached-typed}
 use Rattle.typed_programs.proofs.reached_heaps_are_well_typed.Goals as goal
 
 pub returns : goal.returns
-returns c = reached-fits
+returns c = reached-typed

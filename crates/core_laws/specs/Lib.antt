@@ -1,0 +1,7 @@
+pub mod Carrying
+pub mod Naming
+pub mod Assigning
+pub mod Fixed
+pub mod Present
+pub mod Closing
+pub mod Stacks

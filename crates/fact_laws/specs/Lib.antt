@@ -1,0 +1,5 @@
+pub mod Finite
+pub mod Fair
+pub mod Shapes
+pub mod Carried
+pub mod Reads
