@@ -1,0 +1,48 @@
+-- What is owned stays owned where the amounts are kept: for a formula that can be taken in where nothing is held.
+use Rattle.std.proofs.Common.{◌≡◌, ℕ, ℤ, Bool, ◌≤◌, Some, [], sym, subst, arith}
+use Rattle.pv_fraction.specs.Amounts.{whole}
+use Rattle.pv_meaning.specs.Core.{Formula, Program}
+use Rattle.pv_meaning.specs.Evaluation.{Scene}
+use Rattle.pv_meaning.specs.Heaps.{Heap}
+use Rattle.pv_meaning.specs.Meeting.{Sight}
+use Rattle.pv_meaning.specs.States.{Resource, State, amount_of}
+use Rattle.pv_meaning.specs.Inhaling.{inhale}
+use Rattle.pv_meaning.specs.Judging.{finish}
+use Rattle.account_formulas.specs.Sights.{ContentsAgree, SceneFits}
+use Rattle.account_formulas.specs.Runs.{Taken, truly, RestNeverFails, AreSettled}
+use Rattle.account_formulas.specs.Good.{IsGood}
+use Rattle.account_formulas.specs.Owning.{Amounts, Owns, KeepsHeld, HasTrees}
+use Rattle.account_formulas.specs.Growing.{StateFits, Place, HeapFits}
+use Rattle.account_formulas.specs.Gaining.{Gained, PredicatesFit, home_at, sight_at}
+use Rattle.account_formulas.proofs.Raising.{contents_fine}
+use Rattle.account_formulas.proofs.Gaining.{amount_seen, formula_gains}
+
+pub owns_later : (p : Program) (flags : ℕ → Bool) (present : Heap) (sound : HeapFits p present) (framed : PredicatesFit p present)
+    (c : Place p present) (scene : Scene)
+    → SceneFits (home_at p present c) c.speech c.scope present scene → (f : Formula)
+    → IsGood (home_at p present c) c.speech c.scope f
+    → (R : Amounts) → Owns p flags (sight_at p present c) scene f R → ((q : Resource) → R q ≤ whole)
+    → (taken : Taken) (t : State) → AreSettled taken c.old c.known → StateFits flags present taken t
+    → ((q : Resource) → amount_of t q ≡ 0) → t.instances ≡ []
+    → RestNeverFails taken (λ maps. inhale (truly maps) (record { scene = scene; old = c.old }) f (finish (truly maps)) t)
+    → (other : Sight) → KeepsHeld R present other.now → ContentsAgree other.old c.known
+    → ((array : ℕ) (n : ℤ) → present.length array ≡ Some n → other.now.length array ≡ Some n)
+    → ((array : ℕ) (n : ℤ) → present.length array ≡ Some n → other.old.length array ≡ Some n)
+    → Owns p flags other scene f R
+owns_later p flags present sound framed c scene fits f good R owns most taken t settled fine empty none never other later old
+    now_lengths old_lengths =
+    g.stable other (record {
+      now = λ q x is.
+          let have = amount_seen p flags present sound framed g.then_taken g.after g.fine q x is in
+          let s = g.sum q in
+          let e = empty q in
+          later.kept q x (omega (arith, have, s, e)) (contents_fine flags present g.then_taken g.after g.fine q x is);
+      before = old;
+      now_lengths = now_lengths;
+      old_lengths = old_lengths;
+    }) later
+  where
+    g : Gained p flags present c.known (λ sight. Owns p flags sight scene f) taken t (λ q. 0) R (λ maps. finish (truly maps))
+    g = formula_gains p flags present sound framed c scene fits f good R owns taken t settled fine (λ q. 0)
+        (subst (λ I. HasTrees p flags present I (λ q. 0)) (sym none) tt)
+        (λ q. let m = most q in let e = empty q in omega (arith, m, e)) (λ maps. finish (truly maps)) never

@@ -1,0 +1,27 @@
+pub mod Sames
+pub mod Basics
+pub mod Valuing
+pub mod Steady
+pub mod Meeting
+pub mod Alike
+pub mod Sums
+pub mod Dealing
+pub mod OneForm
+pub mod Quiet
+pub mod TypedReads
+pub mod Knowing
+pub mod Lengths
+pub mod Evaluating
+pub mod Looking
+pub mod Testing
+pub mod Exhaling
+pub mod Picking
+pub mod Raising
+pub mod Ranging
+pub mod Conjuncts
+pub mod Gaining
+pub mod Later
+pub mod TypedValues
+pub mod Still
+pub mod Asking
+mod Laws

@@ -1,0 +1,12 @@
+pub mod Sights
+pub mod Runs
+pub mod Good
+pub mod Owning
+pub mod Growing
+pub mod Agreeing
+pub mod Forms
+pub mod Giving
+pub mod Gaining
+pub mod Statements
+pub mod Still
+pub mod Asking
