@@ -56,17 +56,6 @@ agree_then speech xs a b c s t =
           ∙ t.result k is;
     }
 
--- also for a name that isn't in the scope
-pub agree_beside : (speech : Speech) (xs : List Parameter) (a b : Scene) (name : Name) (i : ℤ) → ScenesAgree speech xs a b
-    → ScenesAgree speech xs (at a name i) (at b name i)
-agree_beside speech xs a b name i s =
-    record { this = s.this; variables = λ x type. go x type (nat_eq x.0 name.0); result = s.result }
-  where
-    go : (x : Name) (type : PvType) (t : Bool) → type_in xs x ≡ Some type → (if t then value.Number i else a.variables x.0)
-        ≡ (if t then value.Number i else b.variables x.0)
-    go x type true is = refl
-    go x type false is = s.variables x type is
-
 if_alike : {R : Type 0} (b : Bool) (x y u v : R) → x ≡ u → y ≡ v → (if b then x else y) ≡ (if b then u else v)
 if_alike true x y u v p q = p
 if_alike false x y u v p q = q
@@ -210,7 +199,7 @@ module _ (h : Home) (speech : Speech) (flags : ℕ → Bool) (one two : Sight) (
         Owning.cut x (cuts_alike xs a b s cuts good.0 r (Some x) c) (item_alike xs a b s name x i good.1 R owns)
     item_alike xs a b s name r (Fixed e f span) good R (Owning.fixed v is w owns) =
         Owning.fixed v (same_value xs a b s e Int good.0 ∙ is) w
-        (owns_alike xs (at a name (number_in v)) (at b name (number_in v))
-        (agree_beside speech xs a b name (number_in v) s) f good.1 R owns)
+        (owns_alike ((name, Int) ∷ xs) (at a name (number_in v)) (at b name (number_in v))
+        (agree_at speech xs a b name (number_in v) s) f good.1 R owns)
     item_alike xs a b s name r (Fixed e f span) good R (Owning.beside v is w) =
         Owning.beside v (same_value xs a b s e Int good.0 ∙ is) w

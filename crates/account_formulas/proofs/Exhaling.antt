@@ -30,7 +30,7 @@ use Rattle.pv_meaning.specs.Judge.{Judged, Maps}
 use Rattle.typed_programs.specs.Frames.{HasType}
 use Rattle.typed_programs.specs.Expressions.{Home, Speech, type_in}
 use Rattle.typed_programs.specs.Blocks.{types_of}
-use Rattle.meaning_laws.proofs.Sames.{names_same, resources_same}
+use Rattle.meaning_laws.proofs.Sames.{resources_same}
 use Rattle.account_formulas.specs.Sights.{Lengths, Contents, LengthsAgree, Sees, ValuesFit, SceneFits, value_at, values_at}
 use Rattle.account_formulas.specs.Runs.{Taken, all_maps, truly, RestNeverFails, AreSettled}
 use Rattle.account_formulas.specs.Giving.{Holdings, amounts_in, with_left, Leaves, Gave}
@@ -251,22 +251,6 @@ position_fits h speech xs heap scene name i fits = record {
     go n t true is = subst (λ x. HasType heap x (value.Number i)) (same_Some Int t is) refl
     go n t false is = fits.variables n t is
 
-pub beside_fits : (h : Home) (speech : Speech) (xs : List Parameter) (heap : Heap) (scene : Scene) (name : Name) (i : ℤ)
-    → type_in xs name ≡ None → SceneFits h speech xs heap scene
-    → SceneFits h speech xs heap (at scene name i)
-beside_fits h speech xs heap scene name i new fits = record {
-  this = fits.this;
-  variables = λ n t is. go n t (nat_eq n.0 name.0) refl is;
-  result = fits.result;
-}
-  where
-    go : (n : Name) (t : PvType) (b : Bool) → nat_eq n.0 name.0 ≡ b → type_in xs n ≡ Some t
-        → HasType heap t (if b then value.Number i else scene.variables n.0)
-    go n t true e is =
-        let same : n ≡ name = names_same n name e in let here =
-        subst (λ z. type_in xs z ≡ Some t) same is in absurd (cc (here, new))
-    go n t false e is = fits.variables n t is
-
 -- the tree of an instance that is taken
 pub record TreeTaken (p : Program) (flags : ℕ → Bool) (present : Heap) (x : Folded) (J : List Folded) (T : Amounts) : Type 0 where
   pub predicate : Predicate
@@ -316,7 +300,7 @@ tree_taken p flags present x (y ∷ I) J T trees is =
         }))
     go f false same e = later f (without_instance x I) refl e
 
-module _ (taken : Taken) (h : Home) (speech : Speech) (xs : List Parameter) (flags : ℕ → Bool) (present past : Heap)
+module _ (taken : Taken) (h : Home) (speech : Speech) (flags : ℕ → Bool) (present past : Heap)
     (here old : Contents)
     (before_cells old_cells : Cells) (settled : AreSettled taken before_cells here) (settled_old : AreSettled taken old_cells old)
     (sees : Sees present here old (record { now = present; old = past })) (now : ValuesFit (field_kind h.program) present present)
@@ -336,13 +320,13 @@ module _ (taken : Taken) (h : Home) (speech : Speech) (xs : List Parameter) (fla
   abbrev G : (Amounts → Type 0) → Holdings → Amounts → (Maps → Next Judged) → Type 0
   G Owning A T next = Gave h.program flags present taken Owning s A T next
 
-  fact_gives : (scene : Scene) → SceneFits h speech xs present scene → (e : Expression) (span : Span)
+  fact_gives : (xs : List Parameter) → (scene : Scene) → SceneFits h speech xs present scene → (e : Expression) (span : Span)
       → IsGood h speech xs (Fact e span)
       → (A : Holdings) (I : List Folded) (l : Lengths) (T : Amounts) (next : Maps → Next Judged)
       → HasTrees h.program flags present I T → LengthsAgree present l
       → RestNeverFails taken (λ maps. exhale (truly maps) (from scene) (Fact e span) (next maps) (with_left s A I l))
       → G (Owns h.program flags sight scene (Fact e span)) A T next
-  fact_gives scene fits e span good A I l T next trees agree never =
+  fact_gives xs scene fits e span good A I l T next trees agree never =
       reading taken h speech xs present scene fits here old view old_cells settled_old (with_left s A I l) (λ t. before_cells)
       (λ m. settled) _ _ (λ place m agrees n. absurd (n.never [] check.Frame place refl)) e Truth good _
       (λ v m agrees typed reads n. go v m agrees (reads sight sees) (truth_in v) refl n) l agree never
@@ -353,7 +337,7 @@ module _ (taken : Taken) (h : Home) (speech : Speech) (xs : List Parameter) (fla
       go v m agrees reads false is n = absurd (n.never [] named (span_or spot span) refl)
       go v m agrees reads true is n = gave_none h.program flags present taken _ s A I m T next trees agrees (fact v reads is) n
 
-  field_gives : (scene : Scene) → SceneFits h speech xs present scene
+  field_gives : (xs : List Parameter) → (scene : Scene) → SceneFits h speech xs present scene
       → (e : Expression) (class name : Name) (type : PvType) (amount : ℕ) (span : Span)
       → IsGood h speech xs (FieldPermission e class name type amount span)
       → (A : Holdings) (I : List Folded) (l : Lengths) (T : Amounts) (next : Maps → Next Judged)
@@ -362,7 +346,7 @@ module _ (taken : Taken) (h : Home) (speech : Speech) (xs : List Parameter) (fla
       → RestNeverFails taken (λ maps. exhale (truly maps) (from scene) (FieldPermission e class name type amount span) (next maps)
       (with_left s A I l))
       → G (Owns h.program flags sight scene (FieldPermission e class name type amount span)) A T next
-  field_gives scene fits e class name type amount span good A I l T next trees agree placed never =
+  field_gives xs scene fits e class name type amount span good A I l T next trees agree placed never =
       reading taken h speech xs present scene fits here old view old_cells settled_old (with_left s A I l) (λ t. before_cells)
       (λ m. settled) _ _ (λ place m agrees n. absurd (n.never [] check.Frame place refl)) e (Object class) good.0 _
       (λ o m agrees typed reads n. gave_one h.program flags present taken _ s A I m T next
@@ -372,7 +356,7 @@ module _ (taken : Taken) (h : Home) (speech : Speech) (xs : List Parameter) (fla
       (λ f. f.never [] named (span_or spot span) refl) n)
       l agree never
 
-  element_gives : (scene : Scene) → SceneFits h speech xs present scene
+  element_gives : (xs : List Parameter) → (scene : Scene) → SceneFits h speech xs present scene
       → (type : PvType) (array index : Expression) (amount : ℕ) (span : Span)
       → IsGood h speech xs (ElementPermission type array index amount span)
       → (A : Holdings) (I : List Folded) (l : Lengths) (T : Amounts) (next : Maps → Next Judged)
@@ -381,7 +365,7 @@ module _ (taken : Taken) (h : Home) (speech : Speech) (xs : List Parameter) (fla
       → RestNeverFails taken (λ maps. exhale (truly maps) (from scene) (ElementPermission type array index amount span)
       (next maps) (with_left s A I l))
       → G (Owns h.program flags sight scene (ElementPermission type array index amount span)) A T next
-  element_gives scene fits type array index amount span good A I l T next trees agree placed never =
+  element_gives xs scene fits type array index amount span good A I l T next trees agree placed never =
       reading taken h speech xs present scene fits here old view old_cells settled_old (with_left s A I l) (λ t. before_cells)
       (λ m. settled) _ _ (λ place m agrees n. absurd (n.never [] check.Frame place refl)) array (array_of type) good.0 _
       (λ a k agreed typed reads n. reading taken h speech xs present scene fits here old view old_cells settled_old
@@ -396,14 +380,15 @@ module _ (taken : Taken) (h : Home) (speech : Speech) (xs : List Parameter) (fla
       k agreed n)
       l agree never
 
-  holds_gives : (scene : Scene) → SceneFits h speech xs present scene → (t : Token) (class : Name) (e : Expression) (span : Span)
+  holds_gives : (xs : List Parameter) → (scene : Scene) → SceneFits h speech xs present scene
+      → (t : Token) (class : Name) (e : Expression) (span : Span)
       → IsGood h speech xs (Holds t class e span)
       → (A : Holdings) (I : List Folded) (l : Lengths) (T : Amounts) (next : Maps → Next Judged)
       → HasTrees h.program flags present I T → LengthsAgree present l
       → ((r : Resource) → 1 ≤ amounts_in A r → IsPlaced present r)
       → RestNeverFails taken (λ maps. exhale (truly maps) (from scene) (Holds t class e span) (next maps) (with_left s A I l))
       → G (Owns h.program flags sight scene (Holds t class e span)) A T next
-  holds_gives scene fits t class e span good A I l T next trees agree placed never =
+  holds_gives xs scene fits t class e span good A I l T next trees agree placed never =
       reading taken h speech xs present scene fits here old view old_cells settled_old (with_left s A I l) (λ t. before_cells)
       (λ m. settled) _ _ (λ place m agrees n. absurd (n.never [] check.Frame place refl)) e (Object class) good _
       (λ o m agrees typed reads n. go t o m agrees (reads sight sees) n) l agree never
@@ -437,7 +422,7 @@ module _ (taken : Taken) (h : Home) (speech : Speech) (xs : List Parameter) (fla
       go token.Uncommitted o m agrees reads n = one token.Uncommitted refl o m agrees reads n
       go token.Committed o m agrees reads n = flagged o m agrees reads (s.committed class (reference_in o)) refl n
 
-  instance_gives : (scene : Scene) → SceneFits h speech xs present scene
+  instance_gives : (xs : List Parameter) → (scene : Scene) → SceneFits h speech xs present scene
       → (class name : Name) (e : Expression) (arguments : List Expression) (span : Span)
       → IsGood h speech xs (Instance class name e arguments span)
       → (A : Holdings) (I : List Folded) (l : Lengths) (T : Amounts) (next : Maps → Next Judged)
@@ -445,7 +430,7 @@ module _ (taken : Taken) (h : Home) (speech : Speech) (xs : List Parameter) (fla
       → RestNeverFails taken (λ maps. exhale (truly maps) (from scene) (Instance class name e arguments span) (next maps)
       (with_left s A I l))
       → G (Owns h.program flags sight scene (Instance class name e arguments span)) A T next
-  instance_gives scene fits class name e arguments span good A I l T next trees agree never =
+  instance_gives xs scene fits class name e arguments span good A I l T next trees agree never =
       reading taken h speech xs present scene fits here old view old_cells settled_old (with_left s A I l) (λ t. before_cells)
       (λ m. settled) _ _ (λ place m agrees n. absurd (n.never [] check.Frame place refl)) e (Object class) good.0 _
       (λ o k agreed typed reads n. reading_all taken h speech xs present scene fits here old view old_cells settled_old
@@ -482,7 +467,7 @@ module _ (taken : Taken) (h : Home) (speech : Speech) (xs : List Parameter) (fla
             sum = λ r. let c = t.sum r in omega (arith, c);
           }
 
-  elements_give : (scene : Scene) → SceneFits h speech xs present scene
+  elements_give : (xs : List Parameter) → (scene : Scene) → SceneFits h speech xs present scene
       → (name : Name) (r : Range) (type : PvType) (array : Expression) (shift : ℤ) (amount : ℕ) (span : Span)
       → IsGoodItem h speech xs name (Elements type array shift amount span) → is_empty r.low r.high ≡ false
       → (A : Holdings) (I : List Folded) (l : Lengths) (T : Amounts) (next : Maps → Next Judged)
@@ -492,7 +477,7 @@ module _ (taken : Taken) (h : Home) (speech : Speech) (xs : List Parameter) (fla
       (λ a. give_range (truly maps) type (reference_in a) (r.low +ℤ shift) (r.high +ℤ shift)
       (shifted (r.low ∷ r.high ∷ r.bounds) shift) amount (fails (truly maps) (from scene) span) (next maps)) (with_left s A I l))
       → G (OwnsItem h.program flags sight scene name r (Elements type array shift amount span)) A T next
-  elements_give scene fits name r type array shift amount span good full A I l T next trees agree placed never =
+  elements_give xs scene fits name r type array shift amount span good full A I l T next trees agree placed never =
       reading taken h speech xs present scene fits here old view old_cells settled_old (with_left s A I l) (λ t. before_cells)
       (λ m. settled) _ _ (λ place m agrees n. absurd (n.never [] check.Frame place refl)) array (array_of type) good.0 _
       (λ a m agrees typed reads n. gave_range h.program flags present taken _ s A I m T next type (reference_in a)
@@ -525,13 +510,13 @@ module _ (taken : Taken) (h : Home) (speech : Speech) (xs : List Parameter) (fla
       (λ parts later. notice_parts (truly maps) parts (i ∷ (i +ℤ pos 1) ∷ r.bounds)
       (true_or_fails scene name e span next maps i later)) state
 
-  repeated_gives : (scene : Scene) → SceneFits h speech xs present scene
+  repeated_gives : (xs : List Parameter) → (scene : Scene) → SceneFits h speech xs present scene
       → (name : Name) (r : Range) (e : Expression) (span : Span) → IsGoodItem h speech xs name (Repeated e span)
       → (A : Holdings) (I : List Folded) (l : Lengths) (T : Amounts) (next : Maps → Next Judged)
       → HasTrees h.program flags present I T → LengthsAgree present l
       → RestNeverFails taken (λ maps. exhale_repeated (truly maps) (from scene) name e span r (next maps) (with_left s A I l))
       → G (OwnsItem h.program flags sight scene name r (Repeated e span)) A T next
-  repeated_gives scene fits name r e span good A I l T next trees agree never =
+  repeated_gives xs scene fits name r e span good A I l T next trees agree never =
       gave_none h.program flags present taken _ s A I l T next trees agree
       (repeated (λ i w. at_position i
       (subst (λ b. RestNeverFails taken (λ maps. if b then looked scene name r e span next
@@ -568,7 +553,7 @@ module _ (taken : Taken) (h : Home) (speech : Speech) (xs : List Parameter) (fla
           (true_or_fails scene name e span next (all_maps taken picks) i (with_left s A I m))) n))
           l agree n
 
-  committed_gives : (scene : Scene) → SceneFits h speech xs present scene
+  committed_gives : (xs : List Parameter) → (scene : Scene) → SceneFits h speech xs present scene
       → (name : Name) (r : Range) (class : Name) (e : Expression) (span : Span)
       → IsGoodItem h speech xs name (Committed class e span)
       → (A : Holdings) (I : List Folded) (l : Lengths) (T : Amounts) (next : Maps → Next Judged)
@@ -577,7 +562,7 @@ module _ (taken : Taken) (h : Home) (speech : Speech) (xs : List Parameter) (fla
       (λ o. take_token (truly maps) token.Committed class (reference_in o) (fails (truly maps) (from scene) span) (next maps))
       (with_left s A I l))
       → G (OwnsItem h.program flags sight scene name r (Committed class e span)) A T next
-  committed_gives scene fits name r class e span good A I l T next trees agree never =
+  committed_gives xs scene fits name r class e span good A I l T next trees agree never =
       reading taken h speech xs present scene fits here old view old_cells settled_old (with_left s A I l) (λ t. before_cells)
       (λ m. settled) _ _ (λ place m agrees n. absurd (n.never [] check.Frame place refl)) e (Object class) good _
       (λ o m agrees typed reads n. go o m agrees (reads sight sees) (s.committed class (reference_in o)) refl n) l agree never
@@ -598,17 +583,17 @@ module _ (taken : Taken) (h : Home) (speech : Speech) (xs : List Parameter) (fla
   parted false X x y n f g = g refl n
 
   -- what is said of all that may be given up
-  abbrev Gives : (Scene → Amounts → Type 0) → (Maps → Scene → Next Judged → Next Judged) → Type 0
-  Gives Owning run = (scene : Scene) → SceneFits h speech xs present scene
+  abbrev Gives : List Parameter → (Scene → Amounts → Type 0) → (Maps → Scene → Next Judged → Next Judged) → Type 0
+  Gives xs Owning run = (scene : Scene) → SceneFits h speech xs present scene
       → (A : Holdings) (I : List Folded) (l : Lengths) (T : Amounts) (next : Maps → Next Judged)
       → HasTrees h.program flags present I T → LengthsAgree present l → ((x : Resource) → 1 ≤ amounts_in A x → IsPlaced present x)
       → RestNeverFails taken (λ maps. run maps scene (next maps) (with_left s A I l)) → G (Owning scene) A T next
 
-  when_gives : (e : Expression) (f : Formula) (span : Span) → IsGood h speech xs (When e f span)
-      → Gives (λ scene. Owns h.program flags sight scene f) (λ maps scene. exhale (truly maps) (from scene) f)
-      → Gives (λ scene. Owns h.program flags sight scene (When e f span))
+  when_gives : (xs : List Parameter) → (e : Expression) (f : Formula) (span : Span) → IsGood h speech xs (When e f span)
+      → Gives xs (λ scene. Owns h.program flags sight scene f) (λ maps scene. exhale (truly maps) (from scene) f)
+      → Gives xs (λ scene. Owns h.program flags sight scene (When e f span))
       (λ maps scene. exhale (truly maps) (from scene) (When e f span))
-  when_gives e f span good inner scene fits A I l T next trees agree placed never =
+  when_gives xs e f span good inner scene fits A I l T next trees agree placed never =
       reading taken h speech xs present scene fits here old view old_cells settled_old (with_left s A I l) (λ t. before_cells)
       (λ m. settled) _ _ (λ place m agrees n. absurd (n.never [] check.Frame place refl)) e Truth good.0 _
       (λ v m agrees typed reads n. parted (truth_in v) _ _ _ n
@@ -617,30 +602,31 @@ module _ (taken : Taken) (h : Home) (speech : Speech) (xs : List Parameter) (fla
       (λ is n. gave_none h.program flags present taken _ s A I m T next trees agrees (when_off v (reads sight sees) is) n))
       l agree never
 
-  fixed_gives : (name : Name) → type_in xs name ≡ None → (r : Range) (e : Expression) (f : Formula) (span : Span)
+  fixed_gives : (xs : List Parameter) → (name : Name) → type_in xs name ≡ None
+      → (r : Range) (e : Expression) (f : Formula) (span : Span)
       → IsGoodItem h speech xs name (Fixed e f span) → is_empty r.low r.high ≡ false
-      → Gives (λ scene. Owns h.program flags sight scene f) (λ maps scene. exhale (truly maps) (from scene) f)
-      → Gives (λ scene. OwnsItem h.program flags sight scene name r (Fixed e f span))
+      → Gives ((name, Int) ∷ xs) (λ scene. Owns h.program flags sight scene f) (λ maps scene. exhale (truly maps) (from scene) f)
+      → Gives xs (λ scene. OwnsItem h.program flags sight scene name r (Fixed e f span))
       (λ maps scene next. value_from (truly maps) (from scene) e
       (λ v later. if_within (truly maps) r.low r.high (number_in v) (next later)
       (exhale (truly maps) (from_at (from scene) name (number_in v)) f next later)))
-  fixed_gives name new r e f span good full inner scene fits A I l T next trees agree placed never =
+  fixed_gives xs name new r e f span good full inner scene fits A I l T next trees agree placed never =
       reading taken h speech xs present scene fits here old view old_cells settled_old (with_left s A I l) (λ t. before_cells)
       (λ m. settled) _ _ (λ place m agrees n. absurd (n.never [] check.Frame place refl)) e Int good.0 _
       (λ v m agrees typed reads n. parted (within r.low r.high (number_in v)) _ _ _ n
       (λ is n. gave_as h.program flags present taken _ _ s A T next (λ B o. fixed v (reads sight sees) is o)
-      (inner (at scene name (number_in v)) (beside_fits h speech xs present scene name
-      (number_in v) new fits) A I m T next trees agrees placed n))
+      (inner (at scene name (number_in v)) (position_fits h speech xs present scene name
+      (number_in v) fits) A I m T next trees agrees placed n))
       (λ is n. gave_none h.program flags present taken _ s A I m T next trees agrees (beside v (reads sight sees) is) n))
       l agree never
 
-  guarded_gives : (name : Name) (r : Range) (cuts : List Cut) (i : Item) (span : Span)
+  guarded_gives : (xs : List Parameter) → (name : Name) (r : Range) (cuts : List Cut) (i : Item) (span : Span)
       → IsGoodItem h speech xs name (Guarded cuts i span)
-      → ((x : Range) → Gives (λ scene. OwnsItem h.program flags sight scene name x i)
+      → ((x : Range) → Gives xs (λ scene. OwnsItem h.program flags sight scene name x i)
       (λ maps scene. exhale_item (truly maps) (from scene) name x i))
-      → Gives (λ scene. OwnsItem h.program flags sight scene name r (Guarded cuts i span))
+      → Gives xs (λ scene. OwnsItem h.program flags sight scene name r (Guarded cuts i span))
       (λ maps scene. exhale_item (truly maps) (from scene) name r (Guarded cuts i span))
-  guarded_gives name r cuts i span good inner scene fits A I l T next trees agree placed never =
+  guarded_gives xs name r cuts i span good inner scene fits A I l T next trees agree placed never =
       cutting taken h speech xs present scene fits here old view old_cells settled_old (with_left s A I l) (λ t. before_cells)
       (λ m. settled) _ _ (λ place m agrees n. absurd (n.never [] check.Frame place refl)) cuts good.0 r next _
       (λ m agrees cuts_to n. gave_none h.program flags present taken _ s A I m T next trees agrees
@@ -654,28 +640,28 @@ module _ (taken : Taken) (h : Home) (speech : Speech) (xs : List Parameter) (fla
   placed_less A B placed less x more = let l = less x in placed x (omega (arith, l, more))
 
   mutual
-    pub exhale_gives : (f : Formula) → IsGood h speech xs f
-        → Gives (λ scene. Owns h.program flags sight scene f) (λ maps scene. exhale (truly maps) (from scene) f)
-    exhale_gives (Fact e span) good scene fits A I l T next trees agree placed never =
-        fact_gives scene fits e span good A I l T next trees agree never
-    exhale_gives (FieldPermission e class name type amount span) good scene fits A I l T next trees agree placed never =
-        field_gives scene fits e class name type amount span good A I l T next trees agree placed never
-    exhale_gives (ElementPermission type array index amount span) good scene fits A I l T next trees agree placed never =
-        element_gives scene fits type array index amount span good A I l T next trees agree placed never
-    exhale_gives (Holds t class e span) good scene fits A I l T next trees agree placed never =
-        holds_gives scene fits t class e span good A I l T next trees agree placed never
-    exhale_gives (Instance class name e arguments span) good scene fits A I l T next trees agree placed never =
-        instance_gives scene fits class name e arguments span good A I l T next trees agree never
-    exhale_gives (Star a b) good scene fits A I l T next trees agree placed never =
+    pub exhale_gives : (xs : List Parameter) → (f : Formula) → IsGood h speech xs f
+        → Gives xs (λ scene. Owns h.program flags sight scene f) (λ maps scene. exhale (truly maps) (from scene) f)
+    exhale_gives xs (Fact e span) good scene fits A I l T next trees agree placed never =
+        fact_gives xs scene fits e span good A I l T next trees agree never
+    exhale_gives xs (FieldPermission e class name type amount span) good scene fits A I l T next trees agree placed never =
+        field_gives xs scene fits e class name type amount span good A I l T next trees agree placed never
+    exhale_gives xs (ElementPermission type array index amount span) good scene fits A I l T next trees agree placed never =
+        element_gives xs scene fits type array index amount span good A I l T next trees agree placed never
+    exhale_gives xs (Holds t class e span) good scene fits A I l T next trees agree placed never =
+        holds_gives xs scene fits t class e span good A I l T next trees agree placed never
+    exhale_gives xs (Instance class name e arguments span) good scene fits A I l T next trees agree placed never =
+        instance_gives xs scene fits class name e arguments span good A I l T next trees agree never
+    exhale_gives xs (Star a b) good scene fits A I l T next trees agree placed never =
         let g =
-        exhale_gives a good.0 scene fits A I l T (λ maps. exhale (truly maps) (from scene) b
+        exhale_gives xs a good.0 scene fits A I l T (λ maps. exhale (truly maps) (from scene) b
         (next maps)) trees agree placed never in
         gave_both h.program flags present taken _ _ _ s A T _ next (λ B C R o q sum. star B C o q sum) g
-        (exhale_gives b good.1 scene fits g.held g.instances g.lengths g.trees next g.has_trees g.agree
+        (exhale_gives xs b good.1 scene fits g.held g.instances g.lengths g.trees next g.has_trees g.agree
         (placed_less A g.held placed g.less) g.never)
-    exhale_gives (When e f span) good scene fits A I l T next trees agree placed never =
-        when_gives e f span good (exhale_gives f good.1) scene fits A I l T next trees agree placed never
-    exhale_gives (Each name low high items span) good scene fits A I l T next trees agree placed never =
+    exhale_gives xs (When e f span) good scene fits A I l T next trees agree placed never =
+        when_gives xs e f span good (exhale_gives xs f good.1) scene fits A I l T next trees agree placed never
+    exhale_gives xs (Each name low high items span) good scene fits A I l T next trees agree placed never =
         reading taken h speech xs present scene fits here old view old_cells settled_old (with_left s A I l) (λ t. before_cells)
         (λ m. settled) _ _ (λ place m agrees n. absurd (n.never [] check.Frame place refl)) low Int good.0 _
         (λ x k agreed typed reads n. reading taken h speech xs present scene fits here old view old_cells settled_old
@@ -683,42 +669,46 @@ module _ (taken : Taken) (h : Home) (speech : Speech) (xs : List Parameter) (fla
         (λ place m agrees n. absurd (n.never [] check.Frame place refl)) high Int good.1 _
         (λ y m agrees number indexed n. gave_as h.program flags present taken _ _ s A T next
         (λ B o. each x y (reads sight sees) (indexed sight sees) o)
-        (items_give items name good.2 (number_in x) (number_in y) good.3 scene fits A I m T next trees agrees placed n))
+        (items_give xs items name good.2 (number_in x) (number_in y) good.3 scene fits A I m T next trees agrees placed n))
         k agreed n)
         l agree never
 
-    pub items_give : (items : Items) (name : Name) → type_in xs name ≡ None → (low high : ℤ) → AreGoodItems h speech xs name items
-        → Gives (λ scene. OwnsItems h.program flags sight scene name low high items)
+    pub items_give : (xs : List Parameter) → (items : Items) (name : Name) → type_in xs name ≡ None → (low high : ℤ)
+        → AreGoodItems h speech xs name items
+        → Gives xs (λ scene. OwnsItems h.program flags sight scene name low high items)
         (λ maps scene. exhale_items (truly maps) (from scene) name low high items)
-    items_give NoItems name new low high good scene fits A I l T next trees agree placed never =
+    items_give xs NoItems name new low high good scene fits A I l T next trees agree placed never =
         gave_none h.program flags present taken _ s A I l T next trees agree no_items never
-    items_give (Join i is) name new low high good scene fits A I l T next trees agree placed never =
+    items_give xs (Join i is) name new low high good scene fits A I l T next trees agree placed never =
         let g =
-        item_gives i name new (range_of low high) good.0 scene fits A I l T
+        item_gives xs i name new (range_of low high) good.0 scene fits A I l T
         (λ maps. exhale_items (truly maps) (from scene) name low high is (next maps)) trees agree placed never in
         gave_both h.program flags present taken _ _ _ s A T _ next (λ B C R o q sum. joined B C o q sum) g
-        (items_give is name new low high good.1 scene fits g.held g.instances g.lengths g.trees next g.has_trees g.agree
+        (items_give xs is name new low high good.1 scene fits g.held g.instances g.lengths g.trees next g.has_trees g.agree
         (placed_less A g.held placed g.less) g.never)
 
-    pub item_gives : (i : Item) (name : Name) → type_in xs name ≡ None → (r : Range) → IsGoodItem h speech xs name i
-        → Gives (λ scene. OwnsItem h.program flags sight scene name r i)
+    pub item_gives : (xs : List Parameter) → (i : Item) (name : Name) → type_in xs name ≡ None → (r : Range)
+        → IsGoodItem h speech xs name i
+        → Gives xs (λ scene. OwnsItem h.program flags sight scene name r i)
         (λ maps scene. exhale_item (truly maps) (from scene) name r i)
-    item_gives (Elements type array shift amount span) name new r good scene fits A I l T next trees agree placed never =
+    item_gives xs (Elements type array shift amount span) name new r good scene fits A I l T next trees agree placed never =
         parted (is_empty r.low r.high) _ _ _ never
         (λ e n. gave_none h.program flags present taken _ s A I l T next trees agree (nothing e) n)
-        (λ e n. elements_give scene fits name r type array shift amount span good e A I l T next trees agree placed n)
-    item_gives (Repeated e span) name new r good scene fits A I l T next trees agree placed never =
+        (λ e n. elements_give xs scene fits name r type array shift amount span good e A I l T next trees agree placed n)
+    item_gives xs (Repeated e span) name new r good scene fits A I l T next trees agree placed never =
         parted (is_empty r.low r.high) _ _ _ never
         (λ is n. gave_none h.program flags present taken _ s A I l T next trees agree (nothing is) n)
-        (λ is n. repeated_gives scene fits name r e span good A I l T next trees agree n)
-    item_gives (Committed class e span) name new r good scene fits A I l T next trees agree placed never =
+        (λ is n. repeated_gives xs scene fits name r e span good A I l T next trees agree n)
+    item_gives xs (Committed class e span) name new r good scene fits A I l T next trees agree placed never =
         parted (is_empty r.low r.high) _ _ _ never
         (λ is n. gave_none h.program flags present taken _ s A I l T next trees agree (nothing is) n)
-        (λ is n. committed_gives scene fits name r class e span good A I l T next trees agree n)
-    item_gives (Guarded cuts i span) name new r good scene fits A I l T next trees agree placed never =
-        guarded_gives name r cuts i span good (λ x. item_gives i name new x good.1) scene fits A I l T next trees agree placed
+        (λ is n. committed_gives xs scene fits name r class e span good A I l T next trees agree n)
+    item_gives xs (Guarded cuts i span) name new r good scene fits A I l T next trees agree placed never =
+        guarded_gives xs name r cuts i span good (λ x. item_gives xs i name new x good.1) scene fits A I l T next trees agree
+        placed
         never
-    item_gives (Fixed e f span) name new r good scene fits A I l T next trees agree placed never =
+    item_gives xs (Fixed e f span) name new r good scene fits A I l T next trees agree placed never =
         parted (is_empty r.low r.high) _ _ _ never
         (λ is n. gave_none h.program flags present taken _ s A I l T next trees agree (nothing is) n)
-        (λ is n. fixed_gives name new r e f span good is (exhale_gives f good.1) scene fits A I l T next trees agree placed n)
+        (λ is n. fixed_gives xs name new r e f span good is
+        (exhale_gives ((name, Int) ∷ xs) f good.1) scene fits A I l T next trees agree placed n)

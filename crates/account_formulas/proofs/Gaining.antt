@@ -44,7 +44,7 @@ use Rattle.account_formulas.proofs.Knowing.{value_on, on_reads}
 use Rattle.account_formulas.proofs.Evaluating.{following, reading, reading_all}
 use Rattle.account_formulas.proofs.Looking.{Looked, looking_on, arrays_passed, cutting, notice_none}
 use Rattle.account_formulas.proofs.Testing.{tests, known_in}
-use Rattle.account_formulas.proofs.Exhaling.{position_fits, beside_fits}
+use Rattle.account_formulas.proofs.Exhaling.{position_fits}
 use Rattle.account_formulas.proofs.Raising.{settled_of, contents_fine, settled_on, sees_less}
 use Rattle.account_formulas.proofs.Ranging.{tested_true, tested_false, range_goes}
 use Rattle.account_formulas.proofs.Conjuncts.{sees_at, view_at, known_fine, gained_none, same_value_read, fact_gains, field_gains, element_gains, token_gains, committed_gains, gained_both, gained_as}
@@ -702,8 +702,8 @@ module _ (p : Program) (flags : ℕ → Bool) (present : Heap) (sound : HeapFits
     item_gains c scene fits name new r (Fixed e f span) good R (fixed v is_v in' owns) =
         by_range c _ r (fixed_run c scene name r e f) R (λ is other. nothing is)
         (λ full. fixed_gains c scene fits name r e f span good R v is_v (λ out other is. absurd (cc (out, in')))
-        (λ in'. formula_gains c (at scene name (number_in v))
-        (beside_fits (home_at p present c) c.speech c.scope present scene name (number_in v) new fits) f good.1 R owns))
+        (λ in'. formula_gains (record c { scope = (name, Int) ∷ c.scope }) (at scene name (number_in v))
+        (position_fits (home_at p present c) c.speech c.scope present scene name (number_in v) fits) f good.1 R owns))
     item_gains c scene fits name new r (Fixed e f span) good R (beside v is_v out) =
         by_range c _ r (fixed_run c scene name r e f) R (λ is other. nothing is)
         (λ full. fixed_gains c scene fits name r e f span good R v is_v (λ out other is. beside v is out)

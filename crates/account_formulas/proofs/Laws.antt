@@ -28,7 +28,7 @@ unit_never_fails p unit never = never_fails_truly (whole_run p unit) never
 
 pub gives_up : ExhaleGives
 gives_up p flags present sound c scene fits f good taken s settled state T trees check statement next never =
-    exhale_gives taken (record { program = p; class = c.class; answer = c.answer }) c.speech c.scope flags present c.past
+    exhale_gives taken (record { program = p; class = c.class; answer = c.answer }) c.speech flags present c.past
     (contents_of taken (cells_of s)) c.known (cells_of s) c.old (settled_of flags present taken s state) settled
     (record {
       now = contents_fine flags present taken s state;
@@ -36,7 +36,8 @@ gives_up p flags present sound c scene fits f good taken s settled state T trees
       now_lengths = λ a n is. is;
       old_lengths = c.lengths;
     })
-    sound.now c.before sound.natural check statement s state.knows f good scene fits s.held s.instances s.lengths T next trees
+    sound.now c.before sound.natural check statement s state.knows c.scope f good scene fits s.held s.instances s.lengths T next
+    trees
     state.agree
     (placed_of flags present taken s state) never
 

@@ -24,4 +24,4 @@ pub mod Later
 pub mod TypedValues
 pub mod Still
 pub mod Asking
-mod Laws
+pub mod Laws

@@ -88,19 +88,19 @@ cut_within (Provided e) v r i w h = go (truth_in v) h
     go true e = w
     go false e = absurd (cc e)
 
-module _ (h : Home) (speech : Speech) (p : Program) (flags : ℕ → Bool) (xs : List Parameter) where
+module _ (h : Home) (speech : Speech) (p : Program) (flags : ℕ → Bool) where
   -- guards that leave nothing keep each position out; others lead to what they leave
-  behind_none : (name : Name) → type_in xs name ≡ None
+  behind_none : (xs : List Parameter) → (name : Name) → type_in xs name ≡ None
       → (sight : Sight) (scene : Scene) (span : Span) (i : ℤ) (rest : Finding) (cuts : List Cut) → AreGoodCuts h speech xs cuts
       → (r : Range) (last : Option Range) → CutsTo sight scene cuts r last → within r.low r.high i ≡ true
       → ((x : Range) → last ≡ Some x → within x.low x.high i ≡ true → rest ≡ AllMet)
       → behind (FirstUnmet span) AllMet sight (at scene name i) cuts i rest ≡ AllMet
-  behind_none name new sight scene span i rest [] good r last to w f = f r to w
-  behind_none name new sight scene span i rest (guard ∷ cuts) good r last (inl to) w f = empty_no r.low r.high i to.0 w
-  behind_none name new sight scene span i rest (guard ∷ cuts) good r last (inr to) w f =
+  behind_none xs name new sight scene span i rest [] good r last to w f = f r to w
+  behind_none xs name new sight scene span i rest (guard ∷ cuts) good r last (inl to) w f = empty_no r.low r.high i to.0 w
+  behind_none xs name new sight scene span i rest (guard ∷ cuts) good r last (inr to) w f =
       steady_value h speech xs name i new (FirstUnmet span) sight scene (guard_term guard)
       (type_of_cut guard) good.0 to.1.0 _ to.1.1
-      ∙ go (λ e. behind_none name new sight scene span i rest cuts good.1 (cut_by guard to.1.0 r) last to.1.2
+      ∙ go (λ e. behind_none xs name new sight scene span i rest cuts good.1 (cut_by guard to.1.0 r) last to.1.2
       (cut_within guard to.1.0 r i w e) f) (passes guard i to.1.0) refl
     where
       go : (passes guard i to.1.0 ≡ true → behind (FirstUnmet span) AllMet sight (at scene name i) cuts i rest ≡ AllMet)
@@ -128,67 +128,70 @@ module _ (h : Home) (speech : Speech) (p : Program) (flags : ℕ → Bool) (xs :
   fixed_none i (value.Reference n) x f = refl
 
   mutual
-    pub is_met : (sight : Sight) (scene : Scene) (f : Formula) → IsGood h speech xs f → (R : Amounts)
+    pub is_met : (xs : List Parameter) → (sight : Sight) (scene : Scene) (f : Formula) → IsGood h speech xs f → (R : Amounts)
         → Owns p flags sight scene f R → unmet sight scene f ≡ AllMet
-    is_met sight scene (Fact e span) good R (fact v is_v is) =
+    is_met xs sight scene (Fact e span) good R (fact v is_v is) =
         value_then (FirstUnmet span) sight scene e v _ is_v ∙ holds_none (truth_in v) span is
-    is_met sight scene (FieldPermission e class name type amount span) good R (field o is_o placed enough) =
+    is_met xs sight scene (FieldPermission e class name type amount span) good R (field o is_o placed enough) =
         value_then (FirstUnmet span) sight scene e o _ is_o
         ∙ there (sight.now.value (location.Field (reference_in o) name)) span placed.1
-    is_met sight scene (ElementPermission type array index amount span) good R (element a i is_a is_i placed enough) =
+    is_met xs sight scene (ElementPermission type array index amount span) good R (element a i is_a is_i placed enough) =
         value_then (FirstUnmet span) sight scene array a _ is_a ∙ value_then (FirstUnmet span) sight scene index i _ is_i
         ∙ there (sight.now.value (location.Cell (reference_in a) (number_in i))) span placed.1
-    is_met sight scene (Holds t class e span) good R (holds o is_o apart placed enough) =
+    is_met xs sight scene (Holds t class e span) good R (holds o is_o apart placed enough) =
         value_then (FirstUnmet span) sight scene e o _ is_o
-    is_met sight scene (Holds t class e span) good R (known o is_o is flagged) =
+    is_met xs sight scene (Holds t class e span) good R (known o is_o is flagged) =
         value_then (FirstUnmet span) sight scene e o _ is_o
-    is_met sight scene (Instance class name e arguments span) good R (folded o vs d is_o is_vs named owns) =
+    is_met xs sight scene (Instance class name e arguments span) good R (folded o vs d is_o is_vs named owns) =
         value_then (FirstUnmet span) sight scene e o _ is_o ∙ values_then (FirstUnmet span) sight scene arguments vs _ is_vs
-    is_met sight scene (Star a b) good R (star A B first second parts) =
-        ap (λ o. first_of o (unmet sight scene b)) (is_met sight scene a good.0 A first) ∙ is_met sight scene b good.1 B second
-    is_met sight scene (When e f span) good R (when_on v is_v is owns) =
+    is_met xs sight scene (Star a b) good R (star A B first second parts) =
+        ap (λ o. first_of o (unmet sight scene b)) (is_met xs sight scene a good.0 A first)
+        ∙ is_met xs sight scene b good.1 B second
+    is_met xs sight scene (When e f span) good R (when_on v is_v is owns) =
         value_then (FirstUnmet span) sight scene e v _ is_v ∙ ap (λ b. if b then unmet sight scene f else AllMet) is
-        ∙ is_met sight scene f good.1 R owns
-    is_met sight scene (When e f span) good R (when_off v is_v is) =
+        ∙ is_met xs sight scene f good.1 R owns
+    is_met xs sight scene (When e f span) good R (when_off v is_v is) =
         value_then (FirstUnmet span) sight scene e v _ is_v ∙ ap (λ b. if b then unmet sight scene f else AllMet) is
-    is_met sight scene (Each name low high items span) good R (each l u is_l is_u owns) =
+    is_met xs sight scene (Each name low high items span) good R (each l u is_l is_u owns) =
         value_then (FirstUnmet span) sight scene low l _ is_l ∙ value_then (FirstUnmet span) sight scene high u _ is_u
         ∙ each_none (λ i. unmet_items sight (at scene name i) i items) (number_in l) (number_in u)
-        (λ i w. are_met sight scene name good.2 (number_in l) (number_in u) items good.3 R owns i w)
+        (λ i w. are_met xs sight scene name good.2 (number_in l) (number_in u) items good.3 R owns i w)
 
-    pub are_met : (sight : Sight) (scene : Scene) (name : Name) → type_in xs name ≡ None → (low high : ℤ) (items : Items)
+    pub are_met : (xs : List Parameter) → (sight : Sight) (scene : Scene) (name : Name) → type_in xs name ≡ None
+        → (low high : ℤ) (items : Items)
         → AreGoodItems h speech xs name items → (R : Amounts)
         → OwnsItems p flags sight scene name low high items R → (i : ℤ) → within low high i ≡ true
         → unmet_items sight (at scene name i) i items ≡ AllMet
-    are_met sight scene name new low high NoItems good R no_items i w = refl
-    are_met sight scene name new low high (Join item items) good R (joined A B first second parts) i w =
+    are_met xs sight scene name new low high NoItems good R no_items i w = refl
+    are_met xs sight scene name new low high (Join item items) good R (joined A B first second parts) i w =
         ap (λ o. first_of o (unmet_items sight (at scene name i) i items))
-        (item_met sight scene name new (range_of low high) item good.0 A first i w)
-        ∙ are_met sight scene name new low high items good.1 B second i w
+        (item_met xs sight scene name new (range_of low high) item good.0 A first i w)
+        ∙ are_met xs sight scene name new low high items good.1 B second i w
 
-    pub item_met : (sight : Sight) (scene : Scene) (name : Name) → type_in xs name ≡ None → (r : Range) (item : Item)
+    pub item_met : (xs : List Parameter) → (sight : Sight) (scene : Scene) (name : Name) → type_in xs name ≡ None
+        → (r : Range) (item : Item)
         → IsGoodItem h speech xs name item → (R : Amounts)
         → OwnsItem p flags sight scene name r item R → (i : ℤ) → within r.low r.high i ≡ true
         → unmet_item sight (at scene name i) i item ≡ AllMet
-    item_met sight scene name new r item good R (nothing e) i w = empty_no r.low r.high i e w
-    item_met sight scene name new r (Elements type array shift amount span) good R (elements a is_a facts) i w =
+    item_met xs sight scene name new r item good R (nothing e) i w = empty_no r.low r.high i e w
+    item_met xs sight scene name new r (Elements type array shift amount span) good R (elements a is_a facts) i w =
         steady_value h speech xs name i new (FirstUnmet span) sight scene array (array_of type) good.0 a _ is_a
         ∙ there (sight.now.value (location.Cell (reference_in a) (i +ℤ shift))) span
         (facts (i +ℤ shift) (shifted_within r.low r.high i shift w)).0.1
-    item_met sight scene name new r (Repeated e span) good R (repeated facts) i w =
+    item_met xs sight scene name new r (Repeated e span) good R (repeated facts) i w =
         let f = facts i w in value_then (FirstUnmet span) sight (at scene name i) e f.0 _ f.1 ∙ holds_none (truth_in f.0) span f.2
-    item_met sight scene name new r (Committed class e span) good R (committed o is_o flagged) i w =
+    item_met xs sight scene name new r (Committed class e span) good R (committed o is_o flagged) i w =
         steady_value h speech xs name i new (FirstUnmet span) sight scene e (Object class) good o _ is_o
-    item_met sight scene name new r (Guarded cuts item span) good R (cut_off to) i w =
-        behind_none name new sight scene span i _ cuts good.0 r None to w (λ x is w. absurd (none-some x is))
-    item_met sight scene name new r (Guarded cuts item span) good R (cut x to owns) i w =
-        behind_none name new sight scene span i _ cuts good.0 r (Some x) to w
-        (λ y is w. item_met sight scene name new x item good.1 R owns i
+    item_met xs sight scene name new r (Guarded cuts item span) good R (cut_off to) i w =
+        behind_none xs name new sight scene span i _ cuts good.0 r None to w (λ x is w. absurd (none-some x is))
+    item_met xs sight scene name new r (Guarded cuts item span) good R (cut x to owns) i w =
+        behind_none xs name new sight scene span i _ cuts good.0 r (Some x) to w
+        (λ y is w. item_met xs sight scene name new x item good.1 R owns i
         (subst (λ z. within z.low z.high i ≡ true) (sym (same_Some x y is)) w))
-    item_met sight scene name new r (Fixed e f span) good R (fixed v is_v inside owns) i w =
+    item_met xs sight scene name new r (Fixed e f span) good R (fixed v is_v inside owns) i w =
         steady_value h speech xs name i new (FirstUnmet span) sight scene e Int good.0 v _ is_v
         ∙ fixed_none i v _ (λ same. subst (λ z. unmet sight (at scene name z) f ≡ AllMet) (sym same)
-        (is_met sight (at scene name (number_in v)) f good.1 R owns))
-    item_met sight scene name new r (Fixed e f span) good R (beside v is_v outside) i w =
+        (is_met ((name, Int) ∷ xs) sight (at scene name (number_in v)) f good.1 R owns))
+    item_met xs sight scene name new r (Fixed e f span) good R (beside v is_v outside) i w =
         steady_value h speech xs name i new (FirstUnmet span) sight scene e Int good.0 v _ is_v
         ∙ fixed_none i v _ (λ same. let here = subst (λ z. within r.low r.high z ≡ true) same w in absurd (cc (here, outside)))

@@ -20,7 +20,7 @@ use Rattle.typed_programs.specs.Expressions.{Home, Speech, type_in, Says}
 use Rattle.account_formulas.specs.Sights.{value_at}
 use Rattle.account_formulas.specs.Good.{AreGoodItems, IsGoodItem, AreGoodCuts, type_of_cut}
 use Rattle.account_formulas.specs.Owning.{Amounts, IsPlaced, Owns, Owns.fact, Owns.element, Owns.holds, Owns.known, Owns.star, Owns.when_on, Owns.when_off, OwnsItems, OwnsItems.no_items, OwnsItems.joined, OwnsItem, OwnsItem.nothing, OwnsItem.elements, OwnsItem.repeated, OwnsItem.committed, OwnsItem.cut_off, OwnsItem.cut, OwnsItem.fixed, OwnsItem.beside, CutsTo}
-use Rattle.account_formulas.specs.Forms.{Guards, SameItem, SameItem.same_fact, SameItem.same_element, SameItem.same_committed, SameItem.same_guarded, SameItem.same_pure, SameItem.same_fixed, SameItem.same_fixed_fact, together, SameItems, SameItems.same_alone, SameItems.same_together}
+use Rattle.account_formulas.specs.Forms.{Guards, SameItem, SameItem.same_fact, SameItem.same_element, SameItem.same_committed, SameItem.same_guarded, SameItem.same_pure, SameItem.same_fixed, SameItem.same_fixed_fact, together, SameItems, SameItems.same_nothing, SameItems.same_alone, SameItems.same_together}
 use Rattle.meaning_laws.proofs.Sames.{front, back, numbers_same}
 use Rattle.account_formulas.proofs.Basics.{nat_self, number_self}
 use Rattle.account_formulas.proofs.Valuing.{value_then}
@@ -400,6 +400,7 @@ module _ (h : Home) (speech : Speech) (flags : ℕ → Bool) (sight : Sight) (xs
 
   pub to_items : (i : ℤ) (f : Formula) (is : Items) → SameItems name f is → AreGoodItems h speech xs name is → (R : Amounts)
       → Owns h.program flags sight (at scene name i) f R → OwnsAt i is R
+  to_items i _ _ same_nothing good R owns = no_items
   to_items i _ _ (same_alone {f = f} {i = item} same) good R owns =
       joined R (λ q. 0) (to_item i f item same good.0 R owns (range_of i (i +ℤ pos 1)) (range_one i)) no_items (λ q. omega arith)
   to_items i _ _ (same_together {f = f} {g = g} {is = is} {js = js} one other) good R (star A B first second parts) =
@@ -408,6 +409,7 @@ module _ (h : Home) (speech : Speech) (flags : ℕ → Bool) (sight : Sight) (xs
 
   pub from_items : (i : ℤ) (f : Formula) (is : Items) → SameItems name f is → AreGoodItems h speech xs name is → (R : Amounts)
       → OwnsAt i is R → Owns h.program flags sight (at scene name i) f R
+  from_items i _ _ same_nothing good R owns = fact (value.Truth true) refl refl
   from_items i _ _ (same_alone {f = f} {i = item} same) good R (joined A B first second parts) =
       owns_more h.program flags sight R (λ q. let k = parts q in omega (arith, k))
       (from_item i f item same good.0 A (range_of i (i +ℤ pos 1)) (range_one i) first)

@@ -91,4 +91,5 @@ module _ (h : Home) (speech : Speech) (quiet : speech.old ≡ false) (now one ot
         behind_alone xs (FirstUnmet span) AllMet (at scene name i) cuts good.0 i _ _ (item_alone xs scene name i item good.1)
     item_alone xs scene name i (Fixed e f span) good =
         alone xs (FirstUnmet span) (at scene name i) e Int good.0 _ _
-        (λ v. ap (λ x. if equality true (value.Number i) v then x else AllMet) (unmet_alone xs (at scene name i) f good.1))
+        (λ v. ap (λ x. if equality true (value.Number i) v then x else AllMet)
+        (unmet_alone ((name, Int) ∷ xs) (at scene name i) f good.1))

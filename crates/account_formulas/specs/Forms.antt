@@ -11,6 +11,7 @@ use Rattle.pv_meaning.specs.Values.{truth_in, within, width}
 use Rattle.pv_meaning.specs.Evaluation.{Scene}
 use Rattle.pv_meaning.specs.Meeting.{Sight, value_or, behind, sum_of_each}
 use Rattle.pv_meaning.specs.States.{Resource}
+use Rattle.pv_meaning.specs.Starts.{true_formula}
 use Rattle.account_formulas.specs.Sights.{value_at}
 use Rattle.account_formulas.specs.Owning.{Amounts, OwnsItems}
 
@@ -50,6 +51,7 @@ together (Join i is) js = Join i (together is js)
 
 -- a formula and items that say the same of one position, conjunct by conjunct
 pub data SameItems (name : Name) : Formula → Items → Type 0 where
+  same_nothing : SameItems name true_formula NoItems
   same_alone : {f : Formula} {i : Item} → SameItem name f i → SameItems name f (Join i NoItems)
   same_together : {f g : Formula} {is js : Items} → SameItems name f is → SameItems name g js
       → SameItems name (Star f g) (together is js)

@@ -37,7 +37,8 @@ AreGoodLooks h speech xs (AtLength type array ∷ looks) =
     Says h speech xs array (array_of type) × IsElement type × AreGoodLooks h speech xs looks
 AreGoodLooks h speech xs (AtTerm e ∷ looks) = ((type : PvType) × Says h speech xs e type) × AreGoodLooks h speech xs looks
 
--- the scope of an item is that around its quantifier: a term of it is typed there, so the position doesn't stand in it
+-- the scope of an item is that around its quantifier: a term of it that is read once is typed there, so the position doesn't
+-- stand in it
 abbrev mutual
   -- a formula is typed, has no amount of nothing, and takes in values that can be picked
   pub IsGood : Home → Speech → List Parameter → Formula → Type 0
@@ -60,7 +61,7 @@ abbrev mutual
   AreGoodItems h speech xs name NoItems = Unit {0}
   AreGoodItems h speech xs name (Join i is) = IsGoodItem h speech xs name i × AreGoodItems h speech xs name is
 
-  -- an item: only what it repeats is typed with the position
+  -- an item: what it repeats, and a formula at one position, are typed with the position
   pub IsGoodItem : Home → Speech → List Parameter → Name → Item → Type 0
   IsGoodItem h speech xs name (Elements element array shift amount span) =
       Says h speech xs array (array_of element) × IsElement element × (1 ≤ amount)
@@ -68,4 +69,4 @@ abbrev mutual
       Says h speech ((name, Int) ∷ xs) e Truth × AreGoodLooks h speech xs (looks_of name e)
   IsGoodItem h speech xs name (Committed class e span) = Says h speech xs e (Object class)
   IsGoodItem h speech xs name (Guarded cuts i span) = AreGoodCuts h speech xs cuts × IsGoodItem h speech xs name i
-  IsGoodItem h speech xs name (Fixed e f span) = Says h speech xs e Int × IsGood h speech xs f
+  IsGoodItem h speech xs name (Fixed e f span) = Says h speech xs e Int × IsGood h speech ((name, Int) ∷ xs) f

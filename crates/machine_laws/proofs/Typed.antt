@@ -482,7 +482,7 @@ after_typed p (Some Label.Leave) heap typed fits there = typed
 after_typed p (Some (Label.Send position)) heap typed fits there = typed
 after_typed p (Some (Label.Receive position)) heap typed fits there = typed
 
-step_typed : (p : Program) (label : Option Label) (heap next : Heap) → IsHeapStep p label heap next
+pub step_typed : (p : Program) (label : Option Label) (heap next : Heap) → IsHeapStep p label heap next
     → IsTypedHeap (field_kind p) heap
     → KeepsKinds (field_kind p) heap label → IsTypedHeap (field_kind p) next
 step_typed p label heap next s typed fits =

@@ -22,7 +22,7 @@ use Rattle.typed_programs.specs.Worlds.{WorldFits}
 use Rattle.typed_programs.proofs.Kept.{chosen-fits, entered-fits}
 use Rattle.typed_programs.proofs.Steps.{act-fits}
 
-kind_there : (things : Things) (kind : Kind) (v : Value) → typing.HasKind things kind v → HasKind (heap_of things) kind v
+pub kind_there : (things : Things) (kind : Kind) (v : Value) → typing.HasKind things kind v → HasKind (heap_of things) kind v
 kind_there things numbers v h = h
 kind_there things truths v h = h
 kind_there things (objects class) v h = h
@@ -37,7 +37,8 @@ arguments_there things [] (v ∷ vs) h = absurd h
 arguments_there things (x ∷ ps) [] h = absurd h
 arguments_there things (x ∷ ps) (v ∷ vs) h = (kind_there things (kind_of x.1) v h.0, arguments_there things ps vs h.1)
 
-object_there : (heap : Heap) (class : Name) (n : ℕ) → heap.class n ≡ Some class → HasType heap (Object class) (value.Reference n)
+pub object_there : (heap : Heap) (class : Name) (n : ℕ) → heap.class n ≡ Some class
+    → HasType heap (Object class) (value.Reference n)
 object_there heap class zero e = tt
 object_there heap class (suc n) e = e
 

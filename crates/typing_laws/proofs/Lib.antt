@@ -22,8 +22,8 @@ mod Messages
 mod Targets
 mod Statements
 mod Members
-mod Programs
+pub mod Programs
 mod Presently
-mod Contracts
-mod Distinct
-mod Throughout
+pub mod Contracts
+pub mod Distinct
+pub mod Throughout

@@ -47,10 +47,8 @@ LookFits h speech xs (AtLength element array) = Says h speech xs array (array_of
 LookFits h speech xs (AtTerm e) = Says h speech xs e Int
 
 -- Formulas, items and one item. The scope of items is that around their quantifier, whose name isn't in scope there: what they
--- look at
--- once for all positions is typed there. A condition that is repeated, and a formula at the one position that a term names, are
--- typed
--- with the name in scope, which stands for a number.
+-- look at once for all positions is typed there. A condition that is repeated, and a formula at the one position that a term
+-- names, are typed with the name in scope, which stands for a number.
 abbrev mutual
   pub FormulaFits : Home → Speech → List Parameter → Formula → Type 0
   FormulaFits h speech xs (core.Fact e span) = Says h speech xs e Truth

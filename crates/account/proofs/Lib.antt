@@ -1,0 +1,21 @@
+pub mod Goodness
+pub mod Supplying
+pub mod Framing
+pub mod Verifying
+pub mod Choosing
+pub mod Settling
+pub mod TakingApart
+pub mod Saying
+pub mod Typing
+pub mod Working
+pub mod LocalWork
+pub mod Sums
+pub mod Exchanging
+pub mod Staying
+pub mod Onward
+pub mod Stepping
+pub mod Beginning
+pub mod Later
+pub mod Ended
+pub mod Homes
+mod Laws

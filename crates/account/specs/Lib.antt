@@ -1,0 +1,14 @@
+pub mod Verified
+pub mod Grounds
+pub mod Running
+pub mod Scoped
+pub mod Frames
+pub mod Owners
+pub mod Objects
+pub mod Blocks
+pub mod Messages
+pub mod Accounts
+pub mod Changing
+pub mod Going
+pub mod Statements
+pub mod Labels

@@ -1,0 +1,171 @@
+-- A step of an accounted thread at its first frame, and the world after it.
+use Rattle.std.proofs.Common.{◌≡◌, ℕ, suc, ◌+◌, ◌≤◌, ◌<◌, Bool, true, false, Option, List, [], ◌∷◌, refl, ap, sym, subst, ◌∙◌, arith}
+use Rattle.std.specs.Prelude.{not}
+use Rattle.pv_values.specs.declared.value.Value.{Value}
+use Rattle.pv_values.specs.declared.value.Location.{Location}
+use Rattle.pv_fraction.specs.Amounts.{whole}
+use Rattle.pv_meaning.specs.Core.{Message, Program}
+use Rattle.pv_meaning.specs.States.{Resource}
+use Rattle.pv_meaning.specs.Tasks.{AtClose, Step, Task, Stand}
+use Rattle.pv_meaning.specs.Frames.{Frame, settled}
+use Rattle.pv_meaning.specs.Worlds.{Mode, World, has_no_frame, is_held_back, with_frames, with_heap}
+use Rattle.pv_meaning.specs.Steps.{waits_unless, act_step, act_tasks, act_frames, act}
+use Rattle.account_formulas.specs.Growing.{HeapFits}
+use Rattle.account_formulas.specs.Gaining.{PredicatesFit}
+use Rattle.account_formulas.specs.Owning.{Amounts, KeepsHeld}
+use Rattle.account_formulas.specs.Still.{IsStill}
+use Rattle.account_formulas.proofs.Still.{settled_still}
+use Rattle.account.specs.Scoped.{TasksSay}
+use Rattle.account.specs.Frames as account
+use Rattle.account.specs.Frames.{amounts_of, all_of, standing_in, called_of, IsRunOf, AllWait, AreRunsOf}
+use Rattle.account.specs.Owners.{at_thread, total}
+use Rattle.account.specs.Messages.{TasksExchange}
+use Rattle.account.specs.Accounts.{Account, Kept}
+use Rattle.account.proofs.Sums.{part_of}
+use Rattle.account.proofs.Exchanging.{settled_exchanges}
+use Rattle.account.specs.Going.{Goes}
+use Rattle.account.proofs.Working.{not_closing, not_leaving}
+use Rattle.account.proofs.LocalWork.{settled_goes, below_settled}
+use Rattle.account_accesses.specs.Standing.{StandsAt}
+use Rattle.account.proofs.Later.{Grown, grown_same, keeps_same}
+use Rattle.account_accesses.proofs.Onward.{goes_on_accounted}
+
+-- a thread that stands at a step does it or waits
+pub acts : (p : Program) (w : World) (a : Account p w) (i : ℕ) (mode : Mode) (step : Step) (f : Frame) (below : List Frame)
+    (rest : List Task) → StandsAt w i step f below rest
+    → (i < w.count → (r : account.Run) (rs : List account.Run) → a.owners.runs i ≡ r ∷ rs → IsRunOf p w.committed w.heap f r
+    → AllWait p w.committed w.heap (called_of f r) below rs → Kept p (act_step p w i f below mode step rest))
+    → Kept p (act p w mode i)
+acts p w a i mode step f below rest at kept =
+    subst (λ fs. Kept p (act_frames p w mode i fs)) (sym at.frames)
+    (subst (λ ts. Kept p (waits_unless (not (is_held_back w i)) (act_tasks p w i f below mode ts))) (sym at.tasks)
+    (held_back (not (is_held_back w i)) (by_runs (a.owners.runs i) refl
+    (subst (λ fs. AreRunsOf p w.committed w.heap fs (a.owners.runs i)) at.frames (a.threads.frames i inside)))))
+  where
+    inside : i < w.count
+    inside = a.threads.live i (ap has_no_frame at.frames)
+
+    held_back : (b : Bool) → Kept p (act_step p w i f below mode step rest)
+        → Kept p (waits_unless b (act_step p w i f below mode step rest))
+    held_back true k = k
+    held_back false k = tt
+
+    by_runs : (rs : List account.Run) → a.owners.runs i ≡ rs → AreRunsOf p w.committed w.heap (f ∷ below) rs
+        → Kept p (act_step p w i f below mode step rest)
+    by_runs [] e fits = absurd fits
+    by_runs (r ∷ rs) e fits = kept inside r rs e fits.0 fits.1
+
+-- what a thread's runs have is at most the whole
+pub runs_at_most : (p : Program) (w : World) (a : Account p w) (i : ℕ) → i < w.count → (q : Resource)
+    → all_of (a.owners.runs i) q ≤ whole
+runs_at_most p w a i inside q =
+    let one = part_of (λ j. at_thread a.owners j q) w.count i inside in let two = a.sums.most q in omega (arith, one, two)
+
+-- the call that a frame is, where only its state and its tasks changed
+pub called_same : (f g : Frame) (r s : account.Run) → IsStill f g → s.past ≡ r.past → s.body ≡ r.body
+    → called_of g s ≡ called_of f r
+called_same f g r s still past body =
+    ap (λ z. record { class = z; method = g.method; this = g.this; begun = g.begun; past = s.past; body = s.body }) still.class
+    ∙ ap (λ z. record { class = f.class; method = z; this = g.this; begun = g.begun; past = s.past; body = s.body }) still.method
+    ∙ ap (λ z. record { class = f.class; method = f.method; this = z; begun = g.begun; past = s.past; body = s.body }) still.this
+    ∙ ap (λ z. record { class = f.class; method = f.method; this = f.this; begun = z; past = s.past; body = s.body }) still.begun
+    ∙ ap (λ z. record { class = f.class; method = f.method; this = f.this; begun = f.begun; past = z; body = s.body }) past
+    ∙ ap (λ z. record { class = f.class; method = f.method; this = f.this; begun = f.begun; past = r.past; body = z }) body
+
+-- a thread has done its step, up to its local work, over a later heap
+pub record Stepped (p : Program) (w : World) (a : Account p w) (i : ℕ) (f : Frame) (below : List Frame)
+    (value : Location → Option Value) (g : Frame) : Type 1 where
+  pub run : account.Run
+  pub old : account.Run
+  pub others : List account.Run
+  pub had : a.owners.runs i ≡ old ∷ others
+  pub fits : IsRunOf p w.committed (record w.heap { value = value }) g run
+  pub says : TasksSay (standing_in p g.class run.body run.outer) run.inner run.scope run.given run.stack g.tasks
+  pub waits : AllWait p w.committed (record w.heap { value = value }) (called_of f old) below others
+  pub less : (q : Resource) → amounts_of run q ≤ amounts_of old q
+  pub still : IsStill f g
+  pub past : run.past ≡ old.past
+  pub body : run.body ≡ old.body
+  pub stood : (block : ℕ) (ts : List Task) → f.tasks ≡ Stand (AtClose block) ∷ ts → ⊥
+  pub messages : (S R : Message → Type 0) → TasksExchange S R f.tasks → TasksExchange S R g.tasks
+  pub grown : Grown w.heap (record w.heap { value = value })
+  pub keeps : (B : Amounts) → ((q : Resource) → B q + all_of (old ∷ others) q ≤ total a.owners w.count (suc w.heap.count) q)
+      → KeepsHeld B w.heap (record w.heap { value = value })
+  pub heap : HeapFits p (record w.heap { value = value })
+  pub predicates : PredicatesFit p (record w.heap { value = value })
+
+-- the world after its local work is accounted for
+pub steps_on : (p : Program) (w : World) (a : Account p w) (i : ℕ) → i < w.count → (f : Frame) (below : List Frame)
+    → (w.threads i).frames ≡ f ∷ below → (value : Location → Option Value) (g : Frame) → Stepped p w a i f below value g
+    → Account p (with_heap (with_frames w i (settled g ∷ below)) (record w.heap { value = value }))
+steps_on p w a i inside f below stack value g s = goes_on_accounted p w a i inside f below stack value (settled g) (record {
+  run = done.run;
+  old = s.old;
+  others = s.others;
+  had = s.had;
+  fits = (
+    done.fits,
+    below_settled p w.committed (record w.heap { value = value }) s.heap s.predicates g s.run done below s.others
+        (subst (λ c. AllWait p w.committed (record w.heap { value = value }) c below s.others)
+        (sym (called_same f g s.old s.run s.still s.past s.body)) s.waits),
+  );
+  less = λ q. let one = done.less q in let two = s.less q in omega (arith, one, two);
+  still = let k = settled_still g in record {
+    class = k.class ∙ s.still.class;
+    method = k.method ∙ s.still.method;
+    this = k.this ∙ s.still.this;
+    begun = k.begun ∙ s.still.begun;
+    old = k.old ∙ s.still.old;
+  };
+  body = done.body ∙ s.body;
+  stood = s.stood;
+  closes =
+      λ block ts is. not_closing (standing_in p (settled g).class done.run.body done.run.outer) done.run.inner done.run.scope
+      done.run.given done.run.stack block ts
+      (subst (λ tasks. TasksSay (standing_in p (settled g).class done.run.body done.run.outer) done.run.inner done.run.scope
+      done.run.given done.run.stack tasks) is done.says);
+  leaves =
+      λ barrier span ts is. not_leaving (standing_in p (settled g).class done.run.body done.run.outer) done.run.inner
+      done.run.scope done.run.given done.run.stack barrier span ts
+      (subst (λ tasks. TasksSay (standing_in p (settled g).class done.run.body done.run.outer) done.run.inner done.run.scope
+      done.run.given done.run.stack tasks) is done.says);
+  messages = λ S R h. settled_exchanges S R g (s.messages S R h);
+  grown = s.grown;
+  keeps = s.keeps;
+})
+  where
+    done : Goes p w.committed (record w.heap { value = value }) (settled g) s.run
+    done = settled_goes p w.committed (record w.heap { value = value }) s.heap s.predicates g s.run s.fits s.says (λ q.
+        let one = runs_at_most p w a i inside q in
+        let same = ap (λ rs. all_of rs q) s.had in
+        let less = s.less q in omega (arith, one, same, less))
+
+-- the same where the heap stays
+pub steps_here : (p : Program) (w : World) (a : Account p w) → HeapFits p w.heap → PredicatesFit p w.heap
+    → (i : ℕ) → i < w.count → (f : Frame) (below : List Frame) → (w.threads i).frames ≡ f ∷ below
+    → (r : account.Run) (rs : List account.Run) → a.owners.runs i ≡ r ∷ rs
+    → AllWait p w.committed w.heap (called_of f r) below rs
+    → (g : Frame) → Goes p w.committed w.heap g r → IsStill f g
+    → ((block : ℕ) (ts : List Task) → f.tasks ≡ Stand (AtClose block) ∷ ts → ⊥)
+    → ((S R : Message → Type 0) → TasksExchange S R f.tasks → TasksExchange S R g.tasks)
+    → Account p (with_frames w i (settled g ∷ below))
+steps_here p w a heap predicates i inside f below stack r rs had waits g goes still stood messages =
+    steps_on p w a i inside f below stack w.heap.value g (record {
+      run = goes.run;
+      old = r;
+      others = rs;
+      had = had;
+      fits = goes.fits;
+      says = goes.says;
+      waits = waits;
+      less = goes.less;
+      still = still;
+      past = goes.past;
+      body = goes.body;
+      stood = stood;
+      messages = messages;
+      grown = grown_same w.heap;
+      keeps = λ B less. keeps_same B w.heap;
+      heap = heap;
+      predicates = predicates;
+    })

@@ -1,0 +1,14 @@
+pub mod Onward
+pub mod Acting
+pub mod Reading
+pub mod Places
+pub mod Writing
+pub mod Speaking
+pub mod Asserting
+pub mod Length
+pub mod Racing
+pub mod Folding
+pub mod Conditions
+pub mod Turns
+pub mod Heads
+pub mod Supporting

@@ -1,0 +1,9 @@
+pub mod Beginning
+pub mod Moving
+pub mod Calling
+pub mod Returning
+pub mod Returned
+pub mod Starting
+pub mod Making
+pub mod Arrayed
+pub mod Laws

@@ -1,0 +1,197 @@
+-- The label of an unlock: what the lock invariant asks for goes from the thread to the lock.
+use Rattle.std.proofs.Common.{◌≡◌, ℕ, suc, ◌+◌, ◌≤◌, ◌<◌, Bool, true, false, if◌then◌else◌, Some, None, List, [], ◌∷◌, refl, ap, sym, subst, ◌∙◌, arith}
+use Rattle.std.specs.Prelude.{nat_eq, not}
+use Rattle.std.proofs.lemmas.Option.{same_Some}
+use Rattle.pv_base.specs.declared.Name.{Name}
+use Rattle.pv_base.specs.declared.Span.{Span}
+use Rattle.pv_meaning.specs.declared.check.Check.TheVariants as check
+use Rattle.pv_meaning.specs.Core.{Formula, Unlock, Program}
+use Rattle.pv_meaning.specs.Members.{invariant_of}
+use Rattle.pv_meaning.specs.Heaps.{at_number}
+use Rattle.pv_meaning.specs.Meeting.{found_met}
+use Rattle.pv_meaning.specs.States.{Resource, OfLock}
+use Rattle.pv_meaning.specs.Tasks.{AtAction, Task, Stand}
+use Rattle.pv_meaning.specs.Frames.{Frame, pops, settled, outer_scene}
+use Rattle.pv_meaning.specs.Worlds.{World, Mode, with_frames, with_holder, has_no_frame, is_held_back}
+use Rattle.pv_meaning.specs.Steps.{Result, needs, act_unlock, is_own, keeps_invariant, act_tasks, act_frames, act}
+use Rattle.meaning_laws.proofs.Sames.{naturals_same}
+use Rattle.account_formulas.specs.Owning.{KeepsOwning}
+use Rattle.account_formulas.specs.Growing.{HeapFits}
+use Rattle.account_formulas.specs.Gaining.{PredicatesFit}
+use Rattle.account_formulas.proofs.Basics.{nat_self}
+use Rattle.account.specs.Frames as account
+use Rattle.account.specs.Frames.{AreRunsOf, all_of, amounts_of}
+use Rattle.account.specs.Owners.{Owners, total, without_locks, at_thread, with_runs, LocksFit}
+use Rattle.account.specs.Objects.{ObjectsFit}
+use Rattle.account.specs.Accounts.{Account, Kept}
+use Rattle.account.specs.Going.{Goes}
+use Rattle.account.proofs.LocalWork.{settled_goes}
+use Rattle.account.proofs.Sums.{sums_less, runs_in_total, total_with_runs, total_with_guard}
+use Rattle.account.proofs.Stepping.{is_not_null}
+use Rattle.account_threads.specs.Parts.{InvariantsFit}
+use Rattle.account_threads.proofs.Locks.{locks_less}
+use Rattle.account_threads.proofs.Acting.{object_on, allowed, acts_on_class}
+use Rattle.account_threads.proofs.Unlocking.{UnlockGoes, unlocks_go}
+use Rattle.account_threads.proofs.Moving.{owners_with}
+use Rattle.account_threads.proofs.Going.{onto, runs_go}
+use Rattle.account_threads.proofs.Families.{Families, families_of, families_move, two_of, own_most, object_is, object_below, waits_kept}
+
+module _ (p : Program) (w : World) (a : Account p w) (sound : HeapFits p w.heap) (framed : PredicatesFit p w.heap)
+    (parts : InvariantsFit p w.heap) (i : ℕ) (f : Frame) (below : List Frame) (stack : (w.threads i).frames ≡ f ∷ below)
+    (inside : i < w.count) (class : Name) (span : Span) (rest : List Task)
+    (is : f.tasks ≡ Stand (AtAction Unlock class span) ∷ rest) (inv : Formula) (has : invariant_of p class ≡ Some inv)
+    (r : account.Run) (rs : List account.Run) (has_runs : a.owners.runs i ≡ r ∷ rs)
+    (fits : AreRunsOf p w.committed w.heap (f ∷ below) (r ∷ rs)) (g : UnlockGoes p w.committed w.heap f r class inv rest) where
+  done : Goes p w.committed w.heap (settled (pops 1 f rest)) g.run
+  done = settled_goes p w.committed w.heap sound framed (pops 1 f rest) g.run g.fits g.says
+      (λ q. let most = own_most p w a i inside (r ∷ rs) has_runs q in let less = g.less q in omega (arith, most, less))
+
+  -- the lock of the object
+  abbrev lock : Resource
+  lock = OfLock class (object_on f)
+
+  abbrev after : Owners
+  after = owners_with a.owners i (done.run ∷ rs) a.owners.promise
+      (at_number (object_on f) (without_locks g.part) a.owners.guard)
+
+  class_is : w.heap.class (object_on f) ≡ Some class
+  class_is = object_is w.heap class (object_on f) g.object
+      (acts_on_class p w.committed w.heap f r fits.0 Unlock class span rest is)
+
+  there : object_on f < suc w.heap.count
+  there = object_below p w.heap sound class (object_on f) class_is
+
+  less_total : (q : Resource) → total after w.count (suc w.heap.count) q ≤ total a.owners w.count (suc w.heap.count) q
+  less_total q =
+      let one = total_with_runs a.owners w.count (suc w.heap.count) q i inside (done.run ∷ rs) in
+      let two = total_with_guard (with_runs a.owners i (done.run ∷ rs)) w.count (suc w.heap.count) q (object_on f) there
+      (without_locks g.part) in
+      let same = ap (λ x. all_of x q) has_runs in
+      let less = g.less q in let work = done.less q in let cut_off = locks_less g.part q in
+      omega (arith, one, two, same, less, work, cut_off)
+
+  less_at : (j : ℕ) (q : Resource) (b : Bool) → nat_eq j i ≡ b
+      → all_of (if b then done.run ∷ rs else a.owners.runs j) q ≤ all_of (a.owners.runs j) q
+  less_at j q true e =
+      let same = ap (λ x. all_of (a.owners.runs x) q) (naturals_same j i e) in
+      let own = ap (λ x. all_of x q) has_runs in let less = g.less q in let work = done.less q in
+      omega (arith, same, own, less, work)
+  less_at j q false e = omega arith
+
+  -- nobody has the lock any more
+  none_left : (j : ℕ) → j < w.count → (b : Bool) → nat_eq j i ≡ b
+      → 1 ≤ all_of (if b then done.run ∷ rs else a.owners.runs j) lock → ⊥
+  none_left j k true e more =
+      let most = own_most p w a i inside (r ∷ rs) has_runs (OfLock class (object_on f)) in
+      let work = done.less (OfLock class (object_on f)) in let free = g.free in omega (arith, most, work, free, more)
+  none_left j k false e more =
+      let two = two_of (λ x. at_thread a.owners x (OfLock class (object_on f))) w.count i j inside k e in
+      let own = ap (λ x. all_of x (OfLock class (object_on f))) has_runs in
+      let most = a.sums.most (OfLock class (object_on f)) in let much = g.much in omega (arith, two, own, most, much, more)
+
+  locks : LocksFit w.count (suc w.heap.count) (at_number (object_on f) None w.holder) after
+  locks = record {
+    held = λ j k d x more. held j k d x more (nat_eq x (object_on f)) refl;
+    threads = a.locks.threads;
+    objects_have_none = λ y k d x. none y k d x (nat_eq y (object_on f)) refl;
+  }
+    where
+      held : (j : ℕ) → j < w.count → (d : Name) (x : ℕ)
+          → 1 ≤ all_of (at_number i (done.run ∷ rs) a.owners.runs j) (OfLock d x)
+          → (b : Bool) → nat_eq x (object_on f) ≡ b → (if b then None else w.holder x) ≡ Some j
+      held j k d x more false e =
+          a.locks.held j k d x (let less = less_at j (OfLock d x) (nat_eq j i) refl in omega (arith, less, more))
+      held j k d x more true e =
+          let same = naturals_same x (object_on f) e in
+          let was = less_at j (OfLock d x) (nat_eq j i) refl in
+          let part = runs_in_total a.owners w.count (suc w.heap.count) (OfLock d x) j k in
+          let placed : w.heap.class x ≡ Some d = a.sums.placed (OfLock d x) (omega (arith, was, more, part)) in
+          let one : d ≡ class = same_Some d class
+          (sym placed ∙ subst (λ z. w.heap.class z ≡ Some class) (sym same) class_is) in
+          let both : OfLock d x ≡ OfLock class (object_on f) = ap (λ z. OfLock z x) one ∙ ap (OfLock class) same in
+          absurd (none_left j k (nat_eq j i) refl
+          (subst (λ z. 1 ≤ all_of (at_number i (done.run ∷ rs) a.owners.runs j) z) both more))
+
+      none : (y : ℕ) → y < suc w.heap.count → (d : Name) (x : ℕ) (b : Bool) → nat_eq y (object_on f) ≡ b
+          → a.owners.promise y (OfLock d x) + (if b then without_locks g.part else a.owners.guard y) (OfLock d x) ≡ 0
+      none y k d x true e = let was = a.locks.objects_have_none y k d x in omega (arith, was)
+      none y k d x false e = a.locks.objects_have_none y k d x
+
+  objects : ObjectsFit p w.committed w.heap w.state (at_number (object_on f) None w.holder) after.promise after.guard
+  objects = record {
+    promises = a.objects.promises;
+    guards = λ x d j k at named flag free. guarded x d j k at named flag (nat_eq x (object_on f)) refl free;
+  }
+    where
+      guarded : (x : ℕ) (d : Name) (j : Formula) → x < suc w.heap.count → w.heap.class x ≡ Some d → invariant_of p d ≡ Some j
+          → w.committed x ≡ true → (b : Bool) → nat_eq x (object_on f) ≡ b → (if b then None else w.holder x) ≡ None
+          → KeepsOwning p w.committed w.heap (outer_scene x [] []) j (if b then without_locks g.part else a.owners.guard x)
+      guarded x d j k at named flag false e free = a.objects.guards x d j k at named flag free
+      guarded x d j k at named flag true e free =
+          let same = naturals_same x (object_on f) e in
+          let one : class ≡ d = same_Some class d (sym class_is ∙ subst (λ z. w.heap.class z ≡ Some d) same at) in
+          let two : inv ≡ j = same_Some inv j (sym has ∙ subst (λ z. invariant_of p z ≡ Some j) (sym one) named) in
+          subst (λ z. KeepsOwning p w.committed w.heap (outer_scene z [] []) j (without_locks g.part)) (sym same)
+          (subst (λ z. KeepsOwning p w.committed w.heap (outer_scene (object_on f) [] []) z (without_locks g.part)) two g.owns)
+
+  families : Families p w.committed w.heap w.count
+      (at_number i (record { role = (w.threads i).role; frames = settled (pops 1 f rest) ∷ below }) w.threads) w.block_count
+      w.blocks w.state after
+  families =
+      families_move p w.committed w.heap w.count w.threads w.block_count w.blocks w.state a.owners i f below stack r rs has_runs
+      (settled (pops 1 f rest)) done.run
+      (onto p w.committed w.heap sound framed f r fits.0 Unlock class span rest is g.run g.past g.body done) inside
+      (runs_go p w.committed w.heap sound framed f r fits.0 Unlock class span rest is g.run g.past g.body done below rs fits.1)
+      a.owners.promise (at_number (object_on f) (without_locks g.part) a.owners.guard) (families_of p w a)
+
+  unlocked : Account p (with_holder (with_frames w i (settled (pops 1 f rest) ∷ below)) (object_on f) None)
+  unlocked = record {
+    owners = after;
+    threads = families.threads_run;
+    sums = sums_less w.heap w.state w.committed (total a.owners w.count (suc w.heap.count))
+        (total after w.count (suc w.heap.count)) less_total a.sums;
+    locks = locks;
+    objects = objects;
+    roles = families.roles;
+    blocks = families.blocks_fit;
+    mail = families.mail;
+  }
+
+-- a thread that stands at an unlock
+pub unlock_keeps : (p : Program) (w : World) (a : Account p w) → HeapFits p w.heap → PredicatesFit p w.heap
+    → InvariantsFit p w.heap → (i : ℕ) (f : Frame) (below : List Frame) (class : Name) (span : Span) (rest : List Task)
+    → (w.threads i).frames ≡ f ∷ below → f.tasks ≡ Stand (AtAction Unlock class span) ∷ rest
+    → (mode : Mode) → Kept p (act p w mode i)
+unlock_keeps p w a sound framed parts i f below class span rest stack is mode =
+    subst (λ fs. Kept p (act_frames p w mode i fs)) (sym stack)
+    (waits_kept p (not (is_held_back w i)) (act_tasks p w i f below mode f.tasks)
+    (by_runs (a.owners.runs i) refl (subst (λ fs. AreRunsOf p w.committed w.heap fs (a.owners.runs i)) stack
+    (a.threads.frames i inside))))
+  where
+    inside : i < w.count
+    inside = a.threads.live i (ap has_no_frame stack)
+
+    -- the world after it
+    next : World
+    next = with_holder (with_frames w i (settled (pops 1 f rest) ∷ below)) (object_on f) None
+
+    by_runs : (rs : List account.Run) → a.owners.runs i ≡ rs → AreRunsOf p w.committed w.heap (f ∷ below) rs
+        → Kept p (act_tasks p w i f below mode f.tasks)
+    by_runs [] e fits = absurd fits
+    by_runs (r ∷ rs) e fits =
+        let named = allowed p w.committed w.heap f r fits.0 Unlock class span rest is in
+        let g = unlocks_go p w.committed w.heap sound framed parts f r fits.0
+        (λ q. let most = own_most p w a i inside (r ∷ rs) e q in omega (arith, most)) class span rest is named.0 named.1 in
+        let much = g.much in
+        let held : w.holder (object_on f) ≡ Some i = a.locks.held i inside class (object_on f)
+        (let same = ap (λ x. all_of x (OfLock class (object_on f))) e in omega (arith, same, much)) in
+        subst (λ ts. Kept p (act_tasks p w i f below mode ts)) (sym is)
+        (subst (λ b. Kept p (needs b check.Null span (act_unlock p w i f below (invariant_of p class) (object_on f) span rest)))
+        (sym (is_not_null (object_on f) g.object))
+        (subst (λ o. Kept p (act_unlock p w i f below o (object_on f) span rest)) (sym named.1)
+        (subst (λ o. Kept p (needs (is_own p w i f below o) check.NotHeld span
+        (keeps_invariant p w i f below named.0 (object_on f) span next))) (sym held)
+        (subst (λ b. Kept p (needs b check.NotHeld span (keeps_invariant p w i f below named.0 (object_on f) span next)))
+        (sym (nat_self i))
+        (subst (λ m. Kept p (needs (found_met m) check.LockInvariant span (Result.Went next))) (sym g.met)
+        (unlocked p w a sound framed parts i f below stack inside class span rest is named.0 named.1 r rs e fits g))))))
