@@ -8,26 +8,26 @@ use Rattle.pv_ast.specs.declared.PvType.TheVariants.{Int, Truth, Object, IntArra
 use Rattle.pv_values.specs.declared.value.Value.{Value}
 use Rattle.pv_values.specs.declared.value.Value.TheVariants as value
 use Rattle.pv_fraction.specs.Amounts.{whole}
-use Rattle.pv_meaning.specs.Core.{Nowhere, ToVariable, ToField, ToElement, Statement, Assign, If, While, Members, Meet, Act, Fold, Unfold, Assert, Send, Receive, Return, Block, Stop, Then, Parameter, Predicate, Method, Program}
-use Rattle.pv_meaning.specs.Values.{Variables, no_variables, with_arguments, with_variable}
-use Rattle.pv_meaning.specs.Members.{predicate_named}
-use Rattle.pv_meaning.specs.Heaps.{Heap}
-use Rattle.pv_meaning.specs.States.{nothing_held, Resource, State, cells_of, empty_state, no_cells}
-use Rattle.pv_meaning.specs.Settings.{Next}
-use Rattle.pv_meaning.specs.Tasks.{Run}
-use Rattle.pv_meaning.specs.Frames.{no_value, only_now, outer_scene}
-use Rattle.pv_meaning.specs.Judging.{finish, inhale_own, pick_variables}
-use Rattle.pv_meaning.specs.Units.{OfMethod, OfFormula, go_on, judge_task}
-use Rattle.pv_meaning.specs.declared.evidence.Pick.{Pick}
-use Rattle.pv_meaning.specs.declared.evidence.Pick.TheVariants.{Turn}
-use Rattle.pv_meaning.specs.Judge.{Judged, Maps, maps_from, before_others, pick_turn, Failed}
-use Rattle.machine_laws.specs.Typed.{IsUnused}
-use Rattle.typed_programs.specs.Expressions.{silent, IsDeclared}
-use Rattle.typed_programs.specs.Blocks.{types_of, over, gives, MethodFits}
-use Rattle.typed_programs.specs.Frames.{HasType, VariablesFit, ResultFits}
-use Rattle.typed_programs.proofs.Local.{new-fits}
-use Rattle.typing_laws.specs.Assigned.{AssignsOnly, BlockAssigns}
-use Rattle.typing_laws.specs.Formulas.{AreDeclared, in_class, MethodSays}
+use Rattle.pv_picks.specs.Plain.Core.{Nowhere, ToVariable, ToField, ToElement, Statement, Assign, If, While, Members, Meet, Act, Fold, Unfold, Assert, Send, Receive, Return, Block, Stop, Then, Parameter, Predicate, Method, Program}
+use Rattle.pv_picks.specs.Formulas.Values.{Variables, no_variables, with_arguments, with_variable}
+use Rattle.pv_picks.specs.Plain.Members.{predicate_named}
+use Rattle.pv_picks.specs.Formulas.Heaps.{Heap}
+use Rattle.pv_picks.specs.Judge.States.{nothing_held, Resource, State, cells_of, empty_state, no_cells}
+use Rattle.pv_picks.specs.Judge.Settings.{Next}
+use Rattle.pv_picks.specs.Machine.Tasks.{Run}
+use Rattle.pv_picks.specs.Machine.Frames.{no_value, only_now, outer_scene}
+use Rattle.pv_picks.specs.Judge.Judging.{finish, inhale_own, pick_variables}
+use Rattle.pv_picks.specs.Judge.UnitRuns.{OfMethod, OfFormula, go_on, judge_task}
+use Rattle.pv_picks.specs.declared.evidence.Pick.{Pick}
+use Rattle.pv_picks.specs.declared.evidence.Pick.TheVariants.{Turn}
+use Rattle.pv_picks.specs.Judge.Runs.{Judged, Maps, maps_from, before_others, pick_turn, Failed}
+use Rattle.pv_picks.specs.Typing.Heaps.{IsUnused}
+use Rattle.pv_picks.specs.Typing.Expressions.{silent, IsDeclared}
+use Rattle.pv_picks.specs.Typing.Blocks.{types_of, over, gives, MethodFits}
+use Rattle.pv_picks.specs.Typing.Frames.{HasType, VariablesFit, ResultFits}
+use Rattle.machine_laws.proofs.Local.{new-fits}
+use Rattle.core_trees.specs.Assigned.{AssignsOnly, BlockAssigns}
+use Rattle.core_trees.specs.Formulas.{AreDeclared, in_class, MethodSays}
 use Rattle.account_formulas.specs.Sights.{SceneFits}
 use Rattle.account_formulas.specs.Runs.{Taken, truly, RestNeverFails, contents_of}
 use Rattle.account_formulas.specs.Good.{IsGood}

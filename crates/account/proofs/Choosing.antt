@@ -1,9 +1,9 @@
 -- A turn that is chosen leaves the maps of the picks for ranges as they are.
 use Rattle.std.proofs.Common.{◌≡◌, ℕ, zero, suc, true, List, ◌∷◌, refl, ap, sym, subst, ◌∙◌}
 use Rattle.std.specs.Prelude.{nat_lt, if◌then◌else◌}
-use Rattle.pv_meaning.specs.declared.evidence.Pick.{Pick}
-use Rattle.pv_meaning.specs.declared.evidence.Pick.TheVariants.{Turn}
-use Rattle.pv_meaning.specs.Judge.{Failed, Blocked, Judged, Maps, pick_turn, before_others, maps_from}
+use Rattle.pv_picks.specs.declared.evidence.Pick.{Pick}
+use Rattle.pv_picks.specs.declared.evidence.Pick.TheVariants.{Turn}
+use Rattle.pv_picks.specs.Judge.Runs.{Failed, Blocked, Judged, Maps, pick_turn, before_others, maps_from}
 use Rattle.account_formulas.specs.Runs.{Taken, all_maps, RestNeverFails}
 
 turn_passed : (n : ℕ) (maps : Maps) (turn : ℕ) (picks : List Pick)

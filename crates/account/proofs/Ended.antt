@@ -5,16 +5,16 @@ use Rattle.std.proofs.lemmas.Option.{none-some}
 use Rattle.pv_ast.specs.declared.PvType.{PvType}
 use Rattle.pv_ast.specs.declared.PvType.TheVariants.{Object}
 use Rattle.pv_values.specs.declared.value.Value.TheVariants as value
-use Rattle.pv_meaning.specs.Core.{Method, Program}
-use Rattle.pv_meaning.specs.Evaluation.{Scene}
-use Rattle.pv_meaning.specs.Heaps.{Heap}
-use Rattle.pv_meaning.specs.Judging.{finish}
-use Rattle.pv_meaning.specs.Frames.{Frame, at_lengths_of, sight_of, contract_scene}
-use Rattle.pv_meaning.specs.Meeting.{AllMet, unmet}
-use Rattle.pv_meaning.specs.Starts.{field_kind}
-use Rattle.typed_programs.specs.Tasks.{IsAnswered}
-use Rattle.typed_programs.specs.Frames.{HasType}
-use Rattle.typing_laws.specs.Formulas.{in_class}
+use Rattle.pv_picks.specs.Plain.Core.{Method, Program}
+use Rattle.pv_picks.specs.Formulas.Evaluation.{Scene}
+use Rattle.pv_picks.specs.Formulas.Heaps.{Heap}
+use Rattle.pv_picks.specs.Judge.Judging.{finish}
+use Rattle.pv_picks.specs.Machine.Frames.{Frame, at_lengths_of, sight_of, contract_scene}
+use Rattle.pv_picks.specs.Formulas.Meeting.{AllMet, unmet}
+use Rattle.pv_picks.specs.Machine.Starts.{field_kind}
+use Rattle.pv_picks.specs.Typing.Tasks.{IsAnswered}
+use Rattle.pv_picks.specs.Typing.Frames.{HasType}
+use Rattle.core_trees.specs.Formulas.{in_class}
 use Rattle.account_formulas.specs.Sights.{SceneFits, ValuesFit}
 use Rattle.account_formulas.specs.Runs.{truly, RestNeverFails}
 use Rattle.account_formulas.specs.Good.{IsGood}

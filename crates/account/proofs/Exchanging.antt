@@ -1,11 +1,11 @@
 -- Local work brings no new messages into the tasks of a frame.
 use Rattle.std.proofs.Common.{ℕ, zero, suc, Bool, true, false, if◌then◌else◌, Some, None, List, [], ◌∷◌}
-use Rattle.pv_meaning.specs.declared.check.Check.TheVariants as check
+use Rattle.pv_picks.specs.declared.check.Check.TheVariants as check
 use Rattle.pv_base.specs.declared.Span.{Span}
-use Rattle.pv_meaning.specs.Core.{Expression, Constant, This, Result, Variable, Field, Element, Length, Not, Compute, Compare, Equal, And, Or, Implies, Old, Target, Nowhere, ToVariable, ToField, ToElement, Right, Value', Call, NewObject, NewArray, Message, Statement, Assign, If, While, Members, Meet, Act, Fold, Unfold, Assert, Send, Receive, Return, Block, Stop, Then}
-use Rattle.pv_meaning.specs.Measures.{size_of_tasks}
-use Rattle.pv_meaning.specs.Tasks.{AtHead, Loop, Task, Evaluate, EvaluateAll, Combine, Choose, Branch, Turn, Put, Drop, Give, Unfolded, Run, Stand, Resume, put_into, tasks_of_right, tasks_of_statement}
-use Rattle.pv_meaning.specs.Frames.{Frame, evaluated, is_true, worked, after_work, settled}
+use Rattle.pv_picks.specs.Plain.Core.{Expression, Constant, This, Result, Variable, Field, Element, Length, Not, Compute, Compare, Equal, And, Or, Implies, Old, Target, Nowhere, ToVariable, ToField, ToElement, Right, Value', Call, NewObject, NewArray, Message, Statement, Assign, If, While, Members, Meet, Act, Fold, Unfold, Assert, Send, Receive, Return, Block, Stop, Then}
+use Rattle.pv_picks.specs.Machine.Measures.{size_of_tasks}
+use Rattle.pv_picks.specs.Machine.Tasks.{AtHead, Loop, Task, Evaluate, EvaluateAll, Combine, Choose, Branch, Turn, Put, Drop, Give, Unfolded, Run, Stand, Resume, put_into, tasks_of_right, tasks_of_statement}
+use Rattle.pv_picks.specs.Machine.Frames.{Frame, evaluated, is_true, worked, after_work, settled}
 use Rattle.account.specs.Messages.{StatementExchanges, BlockExchanges, TasksExchange}
 
 module _ (Sent Received : Message → Type 0) where

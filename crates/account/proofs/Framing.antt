@@ -6,18 +6,18 @@ use Rattle.pv_ast.specs.declared.PvType.{PvType}
 use Rattle.pv_ast.specs.declared.PvType.TheVariants.{Object}
 use Rattle.pv_values.specs.declared.value.Value.{Value}
 use Rattle.pv_values.specs.declared.value.Value.TheVariants as value
-use Rattle.pv_meaning.specs.Core.{Program, Parameter}
-use Rattle.pv_meaning.specs.Values.{Variables, with_variable, with_arguments, no_variables}
-use Rattle.pv_meaning.specs.Heaps.{Heap}
-use Rattle.pv_meaning.specs.Frames.{outer_scene}
-use Rattle.pv_meaning.specs.States.{State, empty_state}
-use Rattle.pv_meaning.specs.Settings.{Next}
-use Rattle.pv_meaning.specs.Judge.{Judged, Maps}
-use Rattle.pv_meaning.specs.Judging.{pick_variables}
-use Rattle.typed_programs.specs.Expressions.{Home, silent, type_in}
-use Rattle.typed_programs.specs.Blocks.{types_of, over}
-use Rattle.typed_programs.specs.Frames.{HasType, VariablesFit}
-use Rattle.typing_laws.specs.Formulas.{AreDeclared}
+use Rattle.pv_picks.specs.Plain.Core.{Program, Parameter}
+use Rattle.pv_picks.specs.Formulas.Values.{Variables, with_variable, with_arguments, no_variables}
+use Rattle.pv_picks.specs.Formulas.Heaps.{Heap}
+use Rattle.pv_picks.specs.Machine.Frames.{outer_scene}
+use Rattle.pv_picks.specs.Judge.States.{State, empty_state}
+use Rattle.pv_picks.specs.Judge.Settings.{Next}
+use Rattle.pv_picks.specs.Judge.Runs.{Judged, Maps}
+use Rattle.pv_picks.specs.Judge.Judging.{pick_variables}
+use Rattle.pv_picks.specs.Typing.Expressions.{Home, silent, type_in}
+use Rattle.pv_picks.specs.Typing.Blocks.{types_of, over}
+use Rattle.pv_picks.specs.Typing.Frames.{HasType, VariablesFit}
+use Rattle.core_trees.specs.Formulas.{AreDeclared}
 use Rattle.account_formulas.specs.Sights.{SceneFits}
 use Rattle.account_formulas.specs.Runs.{Taken, truly, RestNeverFails}
 use Rattle.account_formulas.specs.Growing.{AllBelow, HeapFits}

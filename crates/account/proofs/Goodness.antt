@@ -4,10 +4,10 @@ use Rattle.std.specs.List.{AllByRecursion}
 use Rattle.pv_base.specs.declared.Name.{Name}
 use Rattle.pv_ast.specs.declared.PvType.{PvType}
 use Rattle.pv_ast.specs.declared.PvType.TheVariants.{Int, Truth, Object, IntArray, TruthArray, Null}
-use Rattle.pv_meaning.specs.Core.{Parameter, Cut, Below, UpTo, Above, From, Provided, Formula, Fact, FieldPermission, ElementPermission, Holds, Instance, Star, When, Each, Items, NoItems, Join, Item, Elements, Repeated, Committed, Guarded, Fixed}
-use Rattle.pv_meaning.specs.Repetitions.{Look, AtElements, AtElement, AtLength, AtTerm, looks_of}
-use Rattle.typed_programs.specs.Expressions.{Home, Speech, IsDeclared}
-use Rattle.typing_laws.specs.Formulas.{FormulaFits, ItemsFit, ItemFits, CutFits, LookFits}
+use Rattle.pv_picks.specs.Plain.Core.{Parameter, Cut, Below, UpTo, Above, From, Provided, Formula, Fact, FieldPermission, ElementPermission, Holds, Instance, Star, When, Each, Items, NoItems, Join, Item, Elements, Repeated, Committed, Guarded, Fixed}
+use Rattle.pv_picks.specs.Judge.Repetitions.{Look, AtElements, AtElement, AtLength, AtTerm, looks_of}
+use Rattle.pv_picks.specs.Typing.Expressions.{Home, Speech, IsDeclared}
+use Rattle.core_trees.specs.Formulas.{FormulaFits, ItemsFit, ItemFits, CutFits, LookFits}
 use Rattle.account_formulas.specs.Growing.{IsPicked}
 use Rattle.account_formulas.specs.Good.{IsGood, AreGoodItems, IsGoodItem, AreGoodCuts, AreGoodLooks}
 

@@ -4,10 +4,10 @@ use Rattle.std.specs.List.{AllByRecursion}
 use Rattle.pv_base.specs.declared.Name.{Name}
 use Rattle.pv_ast.specs.declared.PvType.{PvType}
 use Rattle.pv_ast.specs.declared.PvType.TheVariants.{Int, Truth, Object}
-use Rattle.pv_meaning.specs.Core.{Expression, Constant, This, Result, Variable, Field, Element, Length, Not, Compute, Compare, Equal, And, Or, Implies, Old, Parameter, Cut, Below, UpTo, Above, From, Provided, Formula, Fact, FieldPermission, ElementPermission, Holds, Instance, Star, When, Each, Items, NoItems, Join, Item, Elements, Repeated, Committed, Guarded, Fixed}
-use Rattle.pv_meaning.specs.Repetitions.{Look, AtElements, AtElement, AtLength, AtTerm, looks_of}
-use Rattle.typed_programs.specs.Expressions.{Home, Speech, Says, AllSay}
-use Rattle.typing_laws.specs.Formulas.{CutFits, LookFits, FormulaFits, ItemsFit, ItemFits, in_class}
+use Rattle.pv_picks.specs.Plain.Core.{Expression, Constant, This, Result, Variable, Field, Element, Length, Not, Compute, Compare, Equal, And, Or, Implies, Old, Parameter, Cut, Below, UpTo, Above, From, Provided, Formula, Fact, FieldPermission, ElementPermission, Holds, Instance, Star, When, Each, Items, NoItems, Join, Item, Elements, Repeated, Committed, Guarded, Fixed}
+use Rattle.pv_picks.specs.Judge.Repetitions.{Look, AtElements, AtElement, AtLength, AtTerm, looks_of}
+use Rattle.pv_picks.specs.Typing.Expressions.{Home, Speech, Says, AllSay}
+use Rattle.core_trees.specs.Formulas.{CutFits, LookFits, FormulaFits, ItemsFit, ItemFits, in_class}
 
 module _ (h : Home) (speech : Speech) where
   says_in : (xs : List Parameter) (e : Expression) (type : PvType) → Says h speech xs e type

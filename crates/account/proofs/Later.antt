@@ -7,18 +7,18 @@ use Rattle.pv_ast.specs.declared.PvType.TheVariants.{Object}
 use Rattle.pv_values.specs.declared.value.Value.{Value}
 use Rattle.pv_values.specs.declared.value.Value.TheVariants as value
 use Rattle.pv_values.specs.Typing.{Kind, is_number, is_truth}
-use Rattle.pv_meaning.specs.Core.{Formula, Parameter, Barrier, Program}
-use Rattle.pv_meaning.specs.Evaluation.{Scene}
-use Rattle.pv_meaning.specs.Heaps.{Heap}
-use Rattle.pv_meaning.specs.States.{Resource, Cells, Folded, Holding, State, amount_held, amount_of}
-use Rattle.pv_meaning.specs.Starts.{field_kind, kind_of}
-use Rattle.pv_meaning.specs.Tasks.{Loop, Task}
-use Rattle.pv_meaning.specs.Frames.{Frame, body_scene, outer_scene}
-use Rattle.pv_meaning.specs.Worlds.{OpenBlock, ThreadState}
-use Rattle.machine_laws.specs.Typed.{HasKindOf, HoldsOnly}
-use Rattle.typed_programs.specs.Expressions.{Home, Speech}
-use Rattle.typed_programs.specs.Frames as typed
-use Rattle.typed_programs.specs.Frames.{HasType, VariablesFit}
+use Rattle.pv_picks.specs.Plain.Core.{Formula, Parameter, Barrier, Program}
+use Rattle.pv_picks.specs.Formulas.Evaluation.{Scene}
+use Rattle.pv_picks.specs.Formulas.Heaps.{Heap}
+use Rattle.pv_picks.specs.Judge.States.{Resource, Cells, Folded, Holding, State, amount_held, amount_of}
+use Rattle.pv_picks.specs.Machine.Starts.{field_kind, kind_of}
+use Rattle.pv_picks.specs.Machine.Tasks.{Loop, Task}
+use Rattle.pv_picks.specs.Machine.Frames.{Frame, body_scene, outer_scene}
+use Rattle.pv_picks.specs.Machine.Worlds.{OpenBlock, ThreadState}
+use Rattle.pv_picks.specs.Typing.Heaps.{HasKindOf, HoldsOnly}
+use Rattle.pv_picks.specs.Typing.Expressions.{Home, Speech}
+use Rattle.pv_picks.specs.Typing.Frames as typed
+use Rattle.pv_picks.specs.Typing.Frames.{HasType, VariablesFit}
 use Rattle.account_formulas.specs.Sights.{ValuesFit, SceneFits}
 use Rattle.account_formulas.specs.Runs.{Taken}
 use Rattle.account_formulas.specs.Owning.{Amounts, KeepsHeld, KeepsOwning, HasTrees}

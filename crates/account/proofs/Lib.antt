@@ -1,7 +1,6 @@
 pub mod Goodness
 pub mod Supplying
 pub mod Framing
-pub mod Verifying
 pub mod Choosing
 pub mod Settling
 pub mod TakingApart
@@ -11,11 +10,12 @@ pub mod Working
 pub mod LocalWork
 pub mod Sums
 pub mod Exchanging
-pub mod Staying
-pub mod Onward
 pub mod Stepping
 pub mod Beginning
 pub mod Later
 pub mod Ended
 pub mod Homes
 mod Laws
+pub mod Locks
+pub mod Bottom
+pub mod Together

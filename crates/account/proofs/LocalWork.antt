@@ -10,30 +10,30 @@ use Rattle.pv_values.specs.declared.value.Value.{Value}
 use Rattle.pv_values.specs.declared.value.Value.TheVariants as value
 use Rattle.pv_values.specs.Heaps.{same_name}
 use Rattle.pv_fraction.specs.Amounts.{whole}
-use Rattle.pv_meaning.specs.declared.check.Check.TheVariants as check
-use Rattle.pv_meaning.specs.Core.{Plain, Tabled, Parameter, Predicate, Target, Nowhere, ToVariable, ToField, ToElement, Right, Value', Call, NewObject, NewArray, Statement, Assign, If, While, Members, Meet, Act, Fold, Unfold, Assert, Send, Receive, Return, Block, Stop, Then, Program}
-use Rattle.pv_meaning.specs.Values.{number_in, truth_in, reference_in}
-use Rattle.pv_meaning.specs.Heaps.{Heap}
-use Rattle.pv_meaning.specs.Members.{first_that, predicate_named}
-use Rattle.pv_meaning.specs.Measures.{size_of_tasks}
-use Rattle.pv_meaning.specs.States as states
-use Rattle.pv_meaning.specs.States.{Resource, Cells, Folded, State, no_cells, with_instances, without_instance}
-use Rattle.pv_meaning.specs.Settings.{unless_null}
-use Rattle.pv_meaning.specs.Permissions.{or_short}
-use Rattle.pv_meaning.specs.Inhaling.{inhale}
-use Rattle.pv_meaning.specs.Tasks.{Negated, Computed, Compared, Matched, Task, Evaluate, EvaluateAll, Combine, Choose, Branch, Turn, Put, Drop, Give, Unfolded, Run, Stand, Resume, put_into, tasks_of_right, tasks_of_statement}
-use Rattle.pv_meaning.specs.Frames.{Frame, top, second, topmost, object_under, only_now, outer_scene, worked, after_work, settled, body_scene}
-use Rattle.pv_meaning.specs.Judging.{fold_in, unfold_in, judge_block}
-use Rattle.pv_meaning.specs.Judge.{Maps}
-use Rattle.meaning_laws.proofs.Sames.{names_same}
-use Rattle.typed_programs.specs.Expressions.{Home, type_in, IsOf}
-use Rattle.typed_programs.specs.Blocks.{types_of, gives_statement, gives}
-use Rattle.typed_programs.specs.Tasks.{IsWithin}
-use Rattle.typed_programs.specs.Frames as typed
-use Rattle.typed_programs.specs.Frames.{HasType}
-use Rattle.typed_programs.proofs.Local.{rest-fits, two-fit, past-fits}
-use Rattle.typing_laws.specs.Assigned.{AssignsOnly}
-use Rattle.typing_laws.specs.Formulas.{DeclaredBy}
+use Rattle.pv_picks.specs.declared.check.Check.TheVariants as check
+use Rattle.pv_picks.specs.Plain.Core.{Plain, Tabled, Parameter, Predicate, Target, Nowhere, ToVariable, ToField, ToElement, Right, Value', Call, NewObject, NewArray, Statement, Assign, If, While, Members, Meet, Act, Fold, Unfold, Assert, Send, Receive, Return, Block, Stop, Then, Program}
+use Rattle.pv_picks.specs.Formulas.Values.{number_in, truth_in, reference_in}
+use Rattle.pv_picks.specs.Formulas.Heaps.{Heap}
+use Rattle.pv_picks.specs.Plain.Members.{first_that, predicate_named}
+use Rattle.pv_picks.specs.Machine.Measures.{size_of_tasks}
+use Rattle.pv_picks.specs.Judge.States as states
+use Rattle.pv_picks.specs.Judge.States.{Resource, Cells, Folded, State, no_cells, with_instances, without_instance}
+use Rattle.pv_picks.specs.Judge.Settings.{unless_null}
+use Rattle.pv_picks.specs.Judge.Permissions.{or_short}
+use Rattle.pv_picks.specs.Judge.Inhaling.{inhale}
+use Rattle.pv_picks.specs.Machine.Tasks.{Negated, Computed, Compared, Matched, Task, Evaluate, EvaluateAll, Combine, Choose, Branch, Turn, Put, Drop, Give, Unfolded, Run, Stand, Resume, put_into, tasks_of_right, tasks_of_statement}
+use Rattle.pv_picks.specs.Machine.Frames.{Frame, top, second, topmost, object_under, only_now, outer_scene, worked, after_work, settled, body_scene}
+use Rattle.pv_picks.specs.Judge.Judging.{fold_in, unfold_in, judge_block}
+use Rattle.pv_picks.specs.Judge.Runs.{Maps}
+use Rattle.pv_picks.proofs.Sames.{names_same}
+use Rattle.pv_picks.specs.Typing.Expressions.{Home, type_in, IsOf}
+use Rattle.pv_picks.specs.Typing.Blocks.{types_of, gives_statement, gives}
+use Rattle.pv_picks.specs.Typing.Tasks.{IsWithin}
+use Rattle.pv_picks.specs.Typing.Frames as typed
+use Rattle.pv_picks.specs.Typing.Frames.{HasType}
+use Rattle.machine_laws.proofs.Local.{rest-fits, two-fit, past-fits}
+use Rattle.core_trees.specs.Assigned.{AssignsOnly}
+use Rattle.core_trees.specs.Formulas.{DeclaredBy}
 use Rattle.account_formulas.specs.Sights.{Contents}
 use Rattle.account_formulas.specs.Runs.{Taken, truly, RestNeverFails, AreSettled}
 use Rattle.account_formulas.specs.Owning.{Owns}

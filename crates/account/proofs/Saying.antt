@@ -4,16 +4,16 @@ use Rattle.pv_base.specs.declared.Name.{Name}
 use Rattle.pv_base.specs.declared.Span.{Span}
 use Rattle.pv_ast.specs.declared.PvType.{PvType}
 use Rattle.pv_ast.specs.declared.PvType.TheVariants.{Int, Truth, Object}
-use Rattle.pv_meaning.specs.Core.{Expression, Target, Nowhere, ToVariable, ToField, ToElement, Right, Value', Call, NewObject, NewArray, Parameter, Method, Statement, Assign, If, While, Members, Meet, Act, Fold, Unfold, Assert, Send, Receive, Return, Block, Stop, Then}
-use Rattle.pv_meaning.specs.Values.{array_of}
-use Rattle.pv_meaning.specs.Tasks.{Task, EvaluateAll, tasks_of_target, tasks_of_right, put_into, tasks_of_statement}
-use Rattle.pv_picks.specs.Returns.{Goes}
-use Rattle.typed_programs.specs.Expressions.{Home, answer_of, AreOf, onto}
-use Rattle.typed_programs.specs.Blocks as fits
-use Rattle.typed_programs.specs.Blocks.{types_of, TargetFits, RightFits, gives_statement, gives, StatementFits}
-use Rattle.typed_programs.specs.Tasks.{writes_field, writes_element, makes_object, makes_array, at_assert, at_fold, at_call, at_action, at_open, at_arrive, at_send, at_receive}
-use Rattle.typing_laws.specs.Assigned.{TargetIs, AssignsOnly, BlockAssigns, IsListed}
-use Rattle.typing_laws.specs.Formulas.{StatementSays}
+use Rattle.pv_picks.specs.Plain.Core.{Expression, Target, Nowhere, ToVariable, ToField, ToElement, Right, Value', Call, NewObject, NewArray, Parameter, Method, Statement, Assign, If, While, Members, Meet, Act, Fold, Unfold, Assert, Send, Receive, Return, Block, Stop, Then}
+use Rattle.pv_picks.specs.Formulas.Values.{array_of}
+use Rattle.pv_picks.specs.Machine.Tasks.{Task, EvaluateAll, tasks_of_target, tasks_of_right, put_into, tasks_of_statement}
+use Rattle.core_trees.specs.Returns.{Goes}
+use Rattle.pv_picks.specs.Typing.Expressions.{Home, answer_of, AreOf, onto}
+use Rattle.pv_picks.specs.Typing.Blocks as fits
+use Rattle.pv_picks.specs.Typing.Blocks.{types_of, TargetFits, RightFits, gives_statement, gives, StatementFits}
+use Rattle.pv_picks.specs.Typing.Tasks.{writes_field, writes_element, makes_object, makes_array, at_assert, at_fold, at_call, at_action, at_open, at_arrive, at_send, at_receive}
+use Rattle.core_trees.specs.Assigned.{TargetIs, AssignsOnly, BlockAssigns, IsListed}
+use Rattle.core_trees.specs.Formulas.{StatementSays}
 use Rattle.account.specs.Scoped.{OpenLoop, Standing, MayAssign, StaysIn, TasksSay, evaluates, evaluates_none, evaluates_more, parts, puts, drops, gives_result, unfolded, stands, begins}
 
 -- the value on top has another name for its type

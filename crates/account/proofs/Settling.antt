@@ -7,15 +7,15 @@ use Rattle.std.proofs.Math.Path.{fun_ext}
 use Rattle.pv_base.specs.declared.Span.{Span}
 use Rattle.pv_ast.specs.declared.PvType.{PvType}
 use Rattle.pv_values.specs.declared.value.Value.{Value}
-use Rattle.pv_meaning.specs.Core.{Operation, Manner, Plain, Tabled, Expression, Program}
-use Rattle.pv_meaning.specs.Values.{within}
-use Rattle.pv_meaning.specs.Evaluation.{Scene, evaluate, evaluate_all}
-use Rattle.pv_meaning.specs.States.{State, Cell, scene_of, cells_of, InField, InElement, with_length}
-use Rattle.pv_meaning.specs.Settings.{Next, known_or_picked, look_at_length, operate, or_missing}
-use Rattle.pv_meaning.specs.Frames.{topmost}
-use Rattle.pv_meaning.specs.Rows.{access_reader, compute}
-use Rattle.pv_meaning.specs.Judge.{Judged, Maps, pick_number, content}
-use Rattle.meaning_laws.proofs.Readers.{ReadersRelated, evaluate_related}
+use Rattle.pv_picks.specs.Plain.Core.{Operation, Manner, Plain, Tabled, Expression, Program}
+use Rattle.pv_picks.specs.Formulas.Values.{within}
+use Rattle.pv_picks.specs.Formulas.Evaluation.{Scene, evaluate, evaluate_all}
+use Rattle.pv_picks.specs.Judge.States.{State, Cell, scene_of, cells_of, InField, InElement, with_length}
+use Rattle.pv_picks.specs.Judge.Settings.{Next, known_or_picked, look_at_length, operate, or_missing}
+use Rattle.pv_picks.specs.Machine.Frames.{topmost}
+use Rattle.pv_picks.specs.Judge.Rows.{access_reader, compute}
+use Rattle.pv_picks.specs.Judge.Runs.{Judged, Maps, pick_number, content}
+use Rattle.pv_picks.proofs.Readers.{ReadersRelated, evaluate_related}
 use Rattle.account_formulas.specs.Runs.{truly}
 use Rattle.account.specs.Running.{Body, compute_each}
 

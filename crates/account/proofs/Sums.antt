@@ -5,10 +5,10 @@ use Rattle.std.proofs.lemmas.Option.{none-some, same_Some}
 use Rattle.pv_base.specs.declared.Name.{Name}
 use Rattle.pv_values.specs.Heaps.{same_name}
 use Rattle.pv_ast.specs.declared.Token.TheVariants as token
-use Rattle.pv_meaning.specs.Heaps.{Heap, at_number}
-use Rattle.pv_meaning.specs.States.{Resource, OfToken}
-use Rattle.pv_meaning.specs.Worlds.{ThreadState}
-use Rattle.meaning_laws.proofs.Sames.{naturals_same}
+use Rattle.pv_picks.specs.Formulas.Heaps.{Heap, at_number}
+use Rattle.pv_picks.specs.Judge.States.{Resource, OfToken}
+use Rattle.pv_picks.specs.Machine.Worlds.{ThreadState}
+use Rattle.pv_picks.proofs.Sames.{naturals_same}
 use Rattle.account_formulas.specs.Owning.{Amounts, IsPlaced}
 use Rattle.account_formulas.proofs.Basics.{nat_self}
 use Rattle.account.specs.Frames.{Run, all_of}

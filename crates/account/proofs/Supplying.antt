@@ -1,12 +1,12 @@
 -- Well typed heaps fit.
 use Rattle.std.proofs.Common.{◌≡◌, ℕ, suc, ℤ, pos, true, Some}
 use Rattle.std.specs.Prelude.{int_le}
-use Rattle.pv_meaning.specs.Core.{Program}
-use Rattle.pv_meaning.specs.Heaps.{Heap}
-use Rattle.pv_meaning.specs.Starts.{field_kind}
-use Rattle.machine_laws.specs.Typed.{IsTypedHeap}
+use Rattle.pv_picks.specs.Plain.Core.{Program}
+use Rattle.pv_picks.specs.Formulas.Heaps.{Heap}
+use Rattle.pv_picks.specs.Machine.Starts.{field_kind}
+use Rattle.pv_picks.specs.Typing.Heaps.{IsTypedHeap}
 use Rattle.machine_laws.proofs.Lengths.{reached-elements}
-use Rattle.typed_programs.proofs.Reached.{reached-fits}
+use Rattle.machine_laws.proofs.Reached.{reached-fits}
 use Rattle.account_formulas.specs.Growing.{HeapFits}
 use Rattle.account.specs.Grounds.{HeapsFit}
 

@@ -5,17 +5,17 @@ use Rattle.std.proofs.Math.Path.{fun_ext}
 use Rattle.pv_base.specs.declared.Name.{Name}
 use Rattle.pv_base.specs.declared.Span.{Span}
 use Rattle.pv_values.specs.declared.value.Value.{Value}
-use Rattle.pv_meaning.specs.declared.check.Check.TheVariants as check
-use Rattle.pv_meaning.specs.Core.{Target, Nowhere, ToVariable, ToField, ToElement, Right, Value', Call, NewObject, NewArray, Expression, Assign, Block, Program}
-use Rattle.pv_meaning.specs.Values.{reference_in}
-use Rattle.pv_meaning.specs.Evaluation.{Scene, evaluate_all}
-use Rattle.pv_meaning.specs.Settings.{Next, unless_null}
-use Rattle.pv_meaning.specs.Members.{predicate_named, method_named}
-use Rattle.pv_meaning.specs.Tasks.{AtFold, AtCall, Task, Unfolded, Run, tasks_of_right, tasks_of_statement}
-use Rattle.pv_meaning.specs.Frames.{top, topmost}
-use Rattle.pv_meaning.specs.Rows.{access_reader, compute, compute_all, call, right, locate}
-use Rattle.pv_meaning.specs.Judging.{fold_in, unfold_in, judge_block}
-use Rattle.pv_meaning.specs.Judge.{Judged, Maps}
+use Rattle.pv_picks.specs.declared.check.Check.TheVariants as check
+use Rattle.pv_picks.specs.Plain.Core.{Target, Nowhere, ToVariable, ToField, ToElement, Right, Value', Call, NewObject, NewArray, Expression, Assign, Block, Program}
+use Rattle.pv_picks.specs.Formulas.Values.{reference_in}
+use Rattle.pv_picks.specs.Formulas.Evaluation.{Scene, evaluate_all}
+use Rattle.pv_picks.specs.Judge.Settings.{Next, unless_null}
+use Rattle.pv_picks.specs.Plain.Members.{predicate_named, method_named}
+use Rattle.pv_picks.specs.Machine.Tasks.{AtFold, AtCall, Task, Unfolded, Run, tasks_of_right, tasks_of_statement}
+use Rattle.pv_picks.specs.Machine.Frames.{top, topmost}
+use Rattle.pv_picks.specs.Judge.Rows.{access_reader, compute, compute_all, call, right, locate}
+use Rattle.pv_picks.specs.Judge.Judging.{fold_in, unfold_in, judge_block}
+use Rattle.pv_picks.specs.Judge.Runs.{Judged, Maps}
 use Rattle.account_formulas.specs.Runs.{truly}
 use Rattle.account.specs.Running.{Body, compute_each, ran_step, ran}
 use Rattle.account.proofs.Settling.{Alike, evaluate_alike, compute_alike, each_alike, pushed, under_pushed, topmost_pushed, beyond_pushed}

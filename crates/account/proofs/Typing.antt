@@ -9,21 +9,21 @@ use Rattle.pv_ast.specs.declared.PvType.{PvType}
 use Rattle.pv_ast.specs.declared.PvType.TheVariants.{Object}
 use Rattle.pv_values.specs.declared.value.Value.{Value}
 use Rattle.pv_values.specs.declared.value.Value.TheVariants as value
-use Rattle.pv_meaning.specs.declared.check.Check.TheVariants as check
-use Rattle.pv_meaning.specs.Core.{Parameter, Program}
-use Rattle.pv_meaning.specs.Values.{Variables, with_variable}
-use Rattle.pv_meaning.specs.Evaluation.{Scene}
-use Rattle.pv_meaning.specs.Heaps.{Heap}
-use Rattle.pv_meaning.specs.Tasks.{AtHead, Loop, Task, Turn, Run, Stand}
-use Rattle.pv_meaning.specs.Frames.{top, second, topmost, object_under}
-use Rattle.meaning_laws.proofs.Sames.{names_same}
-use Rattle.typed_programs.specs.Expressions.{type_in, onto}
-use Rattle.typed_programs.specs.Tasks.{IsWithin}
-use Rattle.typed_programs.specs.Frames as typed
-use Rattle.typed_programs.specs.Frames.{HasType}
-use Rattle.typed_programs.proofs.Local.{top-fits, under-fits}
-use Rattle.typed_programs.proofs.Kept.{taken-fits, object-fits}
-use Rattle.typing_laws.specs.Assigned.{BlockAssigns, IsListed}
+use Rattle.pv_picks.specs.declared.check.Check.TheVariants as check
+use Rattle.pv_picks.specs.Plain.Core.{Parameter, Program}
+use Rattle.pv_picks.specs.Formulas.Values.{Variables, with_variable}
+use Rattle.pv_picks.specs.Formulas.Evaluation.{Scene}
+use Rattle.pv_picks.specs.Formulas.Heaps.{Heap}
+use Rattle.pv_picks.specs.Machine.Tasks.{AtHead, Loop, Task, Turn, Run, Stand}
+use Rattle.pv_picks.specs.Machine.Frames.{top, second, topmost, object_under}
+use Rattle.pv_picks.proofs.Sames.{names_same}
+use Rattle.pv_picks.specs.Typing.Expressions.{type_in, onto}
+use Rattle.pv_picks.specs.Typing.Tasks.{IsWithin}
+use Rattle.pv_picks.specs.Typing.Frames as typed
+use Rattle.pv_picks.specs.Typing.Frames.{HasType}
+use Rattle.machine_laws.proofs.Local.{top-fits, under-fits}
+use Rattle.machine_laws.proofs.Kept.{taken-fits, object-fits}
+use Rattle.core_trees.specs.Assigned.{BlockAssigns, IsListed}
 use Rattle.account_formulas.specs.Agreeing.{AgreeOn}
 use Rattle.account_formulas.specs.Gaining.{AreTyped}
 use Rattle.account.specs.Running.{Body}

@@ -8,21 +8,21 @@ use Rattle.pv_ast.specs.declared.PvType.{PvType}
 use Rattle.pv_ast.specs.declared.PvType.TheVariants.{Int, Truth, Object}
 use Rattle.pv_values.specs.declared.value.Value.{Value}
 use Rattle.pv_values.specs.declared.value.Value.TheVariants as value
-use Rattle.pv_meaning.specs.declared.check.Check.TheVariants as check
-use Rattle.pv_meaning.specs.Core.{Parameter, Barrier, Expression, Constant, This, Result, Variable, Field, Element, Length, Not, Compute, Compare, Equal, And, Or, Implies, Old, Program}
-use Rattle.pv_meaning.specs.Values.{truth_in, array_of, with_variable}
-use Rattle.pv_meaning.specs.Evaluation.{evaluate}
-use Rattle.pv_meaning.specs.Heaps.{Heap}
-use Rattle.pv_meaning.specs.States as states
-use Rattle.pv_meaning.specs.States.{Resource, State, with_local, with_result}
-use Rattle.pv_meaning.specs.Tasks.{AtRead, AtWrite, AtLength, AtNewObject, AtNewArray, AtAssert, AtFold, AtHead, AtCall, AtAction, AtOpen, AtClose, AtArrive, AtLeave, AtSend, AtReceive, Loop, Task, Evaluate, EvaluateAll, Combine, Choose, Branch, Turn, Put, Drop, Give, Unfolded, Run, Stand, Resume}
-use Rattle.pv_meaning.specs.Frames.{Frame, top, worked, body_scene}
-use Rattle.pv_meaning.specs.Rows.{access_reader, compute}
-use Rattle.pv_meaning.specs.Judge.{Judged, Maps}
-use Rattle.typed_programs.specs.Tasks.{reads_field, reads_element, takes_length, IsWithin}
-use Rattle.typed_programs.specs.Frames as typed
-use Rattle.typed_programs.specs.Frames.{HasType, VariablesFit, ResultFits}
-use Rattle.typed_programs.proofs.Local.{constant-fits, top-fits, rest-fits, put-fits, new-fits}
+use Rattle.pv_picks.specs.declared.check.Check.TheVariants as check
+use Rattle.pv_picks.specs.Plain.Core.{Parameter, Barrier, Expression, Constant, This, Result, Variable, Field, Element, Length, Not, Compute, Compare, Equal, And, Or, Implies, Old, Program}
+use Rattle.pv_picks.specs.Formulas.Values.{truth_in, array_of, with_variable}
+use Rattle.pv_picks.specs.Formulas.Evaluation.{evaluate}
+use Rattle.pv_picks.specs.Formulas.Heaps.{Heap}
+use Rattle.pv_picks.specs.Judge.States as states
+use Rattle.pv_picks.specs.Judge.States.{Resource, State, with_local, with_result}
+use Rattle.pv_picks.specs.Machine.Tasks.{AtRead, AtWrite, AtLength, AtNewObject, AtNewArray, AtAssert, AtFold, AtHead, AtCall, AtAction, AtOpen, AtClose, AtArrive, AtLeave, AtSend, AtReceive, Loop, Task, Evaluate, EvaluateAll, Combine, Choose, Branch, Turn, Put, Drop, Give, Unfolded, Run, Stand, Resume}
+use Rattle.pv_picks.specs.Machine.Frames.{Frame, top, worked, body_scene}
+use Rattle.pv_picks.specs.Judge.Rows.{access_reader, compute}
+use Rattle.pv_picks.specs.Judge.Runs.{Judged, Maps}
+use Rattle.pv_picks.specs.Typing.Tasks.{reads_field, reads_element, takes_length, IsWithin}
+use Rattle.pv_picks.specs.Typing.Frames as typed
+use Rattle.pv_picks.specs.Typing.Frames.{HasType, VariablesFit, ResultFits}
+use Rattle.machine_laws.proofs.Local.{constant-fits, top-fits, rest-fits, put-fits, new-fits}
 use Rattle.account_formulas.specs.Runs.{Taken, truly, RestNeverFails, all_maps}
 use Rattle.account_formulas.specs.Agreeing.{AgreeOn}
 use Rattle.account_formulas.proofs.Lengths.{never_as}

@@ -1,10 +1,10 @@
 -- The account of a world: who owns what, and the runs of the judge over what is left of each frame. A step of a thread that is
 -- accounted for isn't wrong, and leads to a world that is.
 use Rattle.std.specs.Prelude.{◌≡◌, ◌<◌, ℕ, suc, Bool, false, List}
-use Rattle.pv_meaning.specs.Core.{Program}
-use Rattle.pv_meaning.specs.Heaps.{Heap}
-use Rattle.pv_meaning.specs.Worlds.{Thread, World, has_no_frame}
-use Rattle.pv_meaning.specs.Steps.{Result}
+use Rattle.pv_picks.specs.Plain.Core.{Program}
+use Rattle.pv_picks.specs.Formulas.Heaps.{Heap}
+use Rattle.pv_picks.specs.Machine.Worlds.{Thread, World, has_no_frame}
+use Rattle.pv_picks.specs.Machine.Steps.{Result}
 use Rattle.account.specs.Frames.{Run, AreRunsOf}
 use Rattle.account.specs.Owners.{Owners, total, SumsFit, LocksFit}
 use Rattle.account.specs.Objects.{ObjectsFit, RoleFits}

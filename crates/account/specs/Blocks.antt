@@ -2,21 +2,21 @@
 use Rattle.std.specs.Prelude.{◌≡◌, ◌+◌, ◌≤◌, ◌<◌, ℕ, ℤ, pos, ◌+ℤ◌, Bool, true, false, None, List, [], ◌∷◌}
 use Rattle.pv_base.specs.declared.Span.{Span}
 use Rattle.pv_ast.specs.declared.PvType.TheVariants.{Int}
-use Rattle.pv_meaning.specs.declared.check.Check.TheVariants as check
-use Rattle.pv_meaning.specs.Core.{Shared, Team, Barrier, Program}
-use Rattle.pv_meaning.specs.Values.{at_position, within}
-use Rattle.pv_meaning.specs.Evaluation.{Scene}
-use Rattle.pv_meaning.specs.Heaps.{Heap}
-use Rattle.pv_meaning.specs.Meeting.{at}
-use Rattle.pv_meaning.specs.States.{State, bind_of, nothing_held}
-use Rattle.pv_meaning.specs.Inhaling.{inhale_items}
-use Rattle.pv_meaning.specs.Rows.{exhale_each}
-use Rattle.pv_meaning.specs.Judging.{finish, inhale_own, bind_at_site}
-use Rattle.pv_meaning.specs.Tasks.{AtClose, AtLeave, Task, Stand}
-use Rattle.pv_meaning.specs.Frames.{Frame, body_scene}
-use Rattle.pv_meaning.specs.Worlds.{MemberOf, OpenBlock, Thread, member_count, has_no_frame}
-use Rattle.typed_programs.specs.Expressions.{silent}
-use Rattle.typing_laws.specs.Formulas.{SharedFits, in_class}
+use Rattle.pv_picks.specs.declared.check.Check.TheVariants as check
+use Rattle.pv_picks.specs.Plain.Core.{Shared, Team, Barrier, Program}
+use Rattle.pv_picks.specs.Formulas.Values.{at_position, within}
+use Rattle.pv_picks.specs.Formulas.Evaluation.{Scene}
+use Rattle.pv_picks.specs.Formulas.Heaps.{Heap}
+use Rattle.pv_picks.specs.Formulas.Meeting.{at}
+use Rattle.pv_picks.specs.Judge.States.{State, bind_of, nothing_held}
+use Rattle.pv_picks.specs.Judge.Inhaling.{inhale_items}
+use Rattle.pv_picks.specs.Judge.Rows.{exhale_each}
+use Rattle.pv_picks.specs.Judge.Judging.{finish, inhale_own, bind_at_site}
+use Rattle.pv_picks.specs.Machine.Tasks.{AtClose, AtLeave, Task, Stand}
+use Rattle.pv_picks.specs.Machine.Frames.{Frame, body_scene}
+use Rattle.pv_picks.specs.Machine.Worlds.{MemberOf, OpenBlock, Thread, member_count, has_no_frame}
+use Rattle.pv_picks.specs.Typing.Expressions.{silent}
+use Rattle.core_trees.specs.Formulas.{SharedFits, in_class}
 use Rattle.account_formulas.specs.Runs.{truly, RestNeverFails}
 use Rattle.account_formulas.specs.Sights.{SceneFits}
 use Rattle.account_formulas.specs.Owning.{Amounts, KeepsOwning}

@@ -6,26 +6,26 @@ use Rattle.pv_ast.specs.declared.PvType.{PvType}
 use Rattle.pv_ast.specs.declared.PvType.TheVariants.{Object}
 use Rattle.pv_values.specs.declared.value.Value.{Value}
 use Rattle.pv_values.specs.declared.value.Value.TheVariants as value
-use Rattle.pv_meaning.specs.declared.check.Check.{Check}
-use Rattle.pv_meaning.specs.declared.check.Check.TheVariants as check
-use Rattle.pv_meaning.specs.Core.{Parameter, Method, Program}
-use Rattle.pv_meaning.specs.Values.{Variables}
-use Rattle.pv_meaning.specs.Evaluation.{Scene}
-use Rattle.pv_meaning.specs.Heaps.{Heap}
-use Rattle.pv_meaning.specs.Meeting.{Sight}
-use Rattle.pv_meaning.specs.States.{Cells, State, amount_of, nothing_held}
-use Rattle.pv_meaning.specs.Settings.{Setting, Next}
-use Rattle.pv_meaning.specs.Inhaling.{inhale}
-use Rattle.pv_meaning.specs.Tasks.{AtRead, AtLength, AtHead, Loop, Task, Evaluate, EvaluateAll, Combine, Choose, Turn, Stand, Resume}
-use Rattle.pv_meaning.specs.Frames.{Frame, at_lengths_of, body_scene}
-use Rattle.pv_meaning.specs.Rows.{bind_for, arguments_of, result_of}
-use Rattle.pv_meaning.specs.Judging.{blocking, inhale_own, choose_turn, pick_variables, when}
-use Rattle.pv_meaning.specs.Starts.{field_kind}
-use Rattle.typed_programs.specs.Expressions.{Home, Speech, answer_of, type_in}
-use Rattle.typed_programs.specs.Blocks.{over}
-use Rattle.typed_programs.specs.Frames as typed
-use Rattle.typed_programs.specs.Frames.{HasType, VariablesFit, ResultFits}
-use Rattle.typing_laws.specs.Formulas.{FormulaFits, ResultIsDeclared, midway, in_class}
+use Rattle.pv_picks.specs.declared.check.Check.{Check}
+use Rattle.pv_picks.specs.declared.check.Check.TheVariants as check
+use Rattle.pv_picks.specs.Plain.Core.{Parameter, Method, Program}
+use Rattle.pv_picks.specs.Formulas.Values.{Variables}
+use Rattle.pv_picks.specs.Formulas.Evaluation.{Scene}
+use Rattle.pv_picks.specs.Formulas.Heaps.{Heap}
+use Rattle.pv_picks.specs.Formulas.Meeting.{Sight}
+use Rattle.pv_picks.specs.Judge.States.{Cells, State, amount_of, nothing_held}
+use Rattle.pv_picks.specs.Judge.Settings.{Setting, Next}
+use Rattle.pv_picks.specs.Judge.Inhaling.{inhale}
+use Rattle.pv_picks.specs.Machine.Tasks.{AtRead, AtLength, AtHead, Loop, Task, Evaluate, EvaluateAll, Combine, Choose, Turn, Stand, Resume}
+use Rattle.pv_picks.specs.Machine.Frames.{Frame, at_lengths_of, body_scene}
+use Rattle.pv_picks.specs.Judge.Rows.{bind_for, arguments_of, result_of}
+use Rattle.pv_picks.specs.Judge.Judging.{blocking, inhale_own, choose_turn, pick_variables, when}
+use Rattle.pv_picks.specs.Machine.Starts.{field_kind}
+use Rattle.pv_picks.specs.Typing.Expressions.{Home, Speech, answer_of, type_in}
+use Rattle.pv_picks.specs.Typing.Blocks.{over}
+use Rattle.pv_picks.specs.Typing.Frames as typed
+use Rattle.pv_picks.specs.Typing.Frames.{HasType, VariablesFit, ResultFits}
+use Rattle.core_trees.specs.Formulas.{FormulaFits, ResultIsDeclared, midway, in_class}
 use Rattle.account_formulas.specs.Sights.{Contents, ContentsAgree, ValuesFit}
 use Rattle.account_formulas.specs.Runs.{Taken, truly, RestNeverFails, AreSettled}
 use Rattle.account_formulas.specs.Owning.{Amounts, HasTrees}

@@ -1,17 +1,17 @@
 -- What the laws of this crate say.
 use Rattle.std.specs.Prelude.{List}
 use Rattle.pv_ast.specs.declared.Program.{Program}
-use Rattle.pv_rules.specs.WellFormed.{IsWellFormed}
-use Rattle.pv_meaning.specs.Core as core
-use Rattle.pv_meaning.specs.Core.{Formula, Parameter}
-use Rattle.pv_meaning.specs.Heaps.{Heap}
-use Rattle.pv_meaning.specs.Worlds.{World}
-use Rattle.pv_meaning.specs.Safety.{IsReached}
-use Rattle.pv_picks.specs.Programs.{core_of}
-use Rattle.pv_picks.specs.Theorems.{IsVerified}
-use Rattle.typed_programs.specs.Expressions.{Home, Speech}
-use Rattle.typed_programs.specs.Blocks.{ProgramFits}
-use Rattle.typing_laws.specs.Formulas.{FormulaFits}
+use Rattle.pv_ast.specs.Rules.WellFormed.{IsWellFormed}
+use Rattle.pv_picks.specs.Plain.Core as core
+use Rattle.pv_picks.specs.Plain.Core.{Formula, Parameter}
+use Rattle.pv_picks.specs.Formulas.Heaps.{Heap}
+use Rattle.pv_picks.specs.Machine.Worlds.{World}
+use Rattle.pv_picks.specs.Machine.Safety.{IsReached}
+use Rattle.pv_picks.specs.Elaborating.Programs.{core_of}
+use Rattle.pv_picks.specs.Verdicts.Theorems.{IsVerified}
+use Rattle.pv_picks.specs.Typing.Expressions.{Home, Speech}
+use Rattle.pv_picks.specs.Typing.Blocks.{ProgramFits}
+use Rattle.core_trees.specs.Formulas.{FormulaFits}
 use Rattle.account_formulas.specs.Good.{IsGood}
 use Rattle.account_formulas.specs.Growing.{HeapFits}
 use Rattle.account_formulas.specs.Gaining.{PredicatesFit}

@@ -1,10 +1,10 @@
 -- What the law of a label says: the step isn't wrong, and the world after it is accounted for.
 use Rattle.std.specs.Prelude.{◌≡◌, ℕ, List, ◌∷◌}
-use Rattle.pv_meaning.specs.Core.{Program}
-use Rattle.pv_meaning.specs.Frames.{Frame}
-use Rattle.pv_meaning.specs.Worlds.{Role, Mode, World}
-use Rattle.pv_meaning.specs.Steps.{act}
-use Rattle.pv_meaning.specs.Safety.{IsReached}
+use Rattle.pv_picks.specs.Plain.Core.{Program}
+use Rattle.pv_picks.specs.Machine.Frames.{Frame}
+use Rattle.pv_picks.specs.Machine.Worlds.{Role, Mode, World}
+use Rattle.pv_picks.specs.Machine.Steps.{act}
+use Rattle.pv_picks.specs.Machine.Safety.{IsReached}
 use Rattle.account.specs.Accounts.{Account, Kept}
 use Rattle.account.specs.Verified.{IsVerifiedThroughout}
 

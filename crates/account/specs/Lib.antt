@@ -7,8 +7,9 @@ pub mod Owners
 pub mod Objects
 pub mod Blocks
 pub mod Messages
+pub mod Members
 pub mod Accounts
-pub mod Changing
 pub mod Going
 pub mod Statements
 pub mod Labels
+pub mod Openings

@@ -3,11 +3,11 @@ use Rattle.std.specs.Prelude.{◌≡◌, ◌<◌, ℕ, ℤ, pos, ◌-ℤ◌, Boo
 use Rattle.std.specs.List.{AllByRecursion}
 use Rattle.pv_base.specs.declared.Name.{Name}
 use Rattle.pv_values.specs.Heaps.{same_name}
-use Rattle.pv_meaning.specs.Core.{Message, Statement, If, While, Send, Receive, Block, Stop, Then, Program}
-use Rattle.pv_meaning.specs.Heaps.{Heap}
-use Rattle.pv_meaning.specs.Tasks.{AtHead, AtSend, AtReceive, Task, Branch, Turn, Run, Stand}
-use Rattle.pv_meaning.specs.Frames.{Frame}
-use Rattle.pv_meaning.specs.Worlds.{MemberOf, OpenBlock, Thread}
+use Rattle.pv_picks.specs.Plain.Core.{Message, Statement, If, While, Send, Receive, Block, Stop, Then, Program}
+use Rattle.pv_picks.specs.Formulas.Heaps.{Heap}
+use Rattle.pv_picks.specs.Machine.Tasks.{AtHead, AtSend, AtReceive, Task, Branch, Turn, Run, Stand}
+use Rattle.pv_picks.specs.Machine.Frames.{Frame}
+use Rattle.pv_picks.specs.Machine.Worlds.{MemberOf, OpenBlock, Thread}
 use Rattle.account_formulas.specs.Owning.{Amounts, KeepsOwning}
 use Rattle.account.specs.Owners.{Opened, Mail, letter, Owners}
 use Rattle.account.specs.Blocks.{scene_at}

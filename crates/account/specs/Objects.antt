@@ -2,16 +2,16 @@
 -- runs of threads that aren't members of a block, at their last frame.
 use Rattle.std.specs.Prelude.{◌≡◌, ◌<◌, ℕ, suc, Bool, true, Option, Some, None, List, [], ◌∷◌}
 use Rattle.pv_base.specs.declared.Name.{Name}
-use Rattle.pv_meaning.specs.Core.{Formula, Method, Program}
-use Rattle.pv_meaning.specs.Evaluation.{Scene}
-use Rattle.pv_meaning.specs.Members.{run_of, invariant_of}
-use Rattle.pv_meaning.specs.Heaps.{Heap}
-use Rattle.pv_meaning.specs.Inhaling.{inhale}
-use Rattle.pv_meaning.specs.Judging.{finish}
-use Rattle.pv_meaning.specs.States.{Resource, Cells, State, amount_of}
-use Rattle.pv_meaning.specs.Frames.{Frame, outer_scene}
-use Rattle.pv_meaning.specs.Starts.{field_kind}
-use Rattle.pv_meaning.specs.Worlds.{Role, Entry, RunOf, MemberOf, ThreadState}
+use Rattle.pv_picks.specs.Plain.Core.{Formula, Method, Program}
+use Rattle.pv_picks.specs.Formulas.Evaluation.{Scene}
+use Rattle.pv_picks.specs.Plain.Members.{run_of, invariant_of}
+use Rattle.pv_picks.specs.Formulas.Heaps.{Heap}
+use Rattle.pv_picks.specs.Judge.Inhaling.{inhale}
+use Rattle.pv_picks.specs.Judge.Judging.{finish}
+use Rattle.pv_picks.specs.Judge.States.{Resource, Cells, State, amount_of}
+use Rattle.pv_picks.specs.Machine.Frames.{Frame, outer_scene}
+use Rattle.pv_picks.specs.Machine.Starts.{field_kind}
+use Rattle.pv_picks.specs.Machine.Worlds.{Role, Entry, RunOf, MemberOf, ThreadState}
 use Rattle.account_formulas.specs.Sights.{Contents, ContentsAgree, ValuesFit}
 use Rattle.account_formulas.specs.Runs.{Taken, truly, RestNeverFails, AreSettled}
 use Rattle.account_formulas.specs.Owning.{Amounts, KeepsOwning}

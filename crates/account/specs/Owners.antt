@@ -5,11 +5,11 @@ use Rattle.pv_base.specs.declared.Name.{Name}
 use Rattle.pv_ast.specs.declared.Token.TheVariants as token
 use Rattle.pv_fraction.specs.Amounts.{whole}
 use Rattle.pv_values.specs.Heaps.{same_name}
-use Rattle.pv_meaning.specs.Core.{Parameter, Message}
-use Rattle.pv_meaning.specs.Evaluation.{Scene}
-use Rattle.pv_meaning.specs.Heaps.{Heap, at_number}
-use Rattle.pv_meaning.specs.States.{Resource, InField, InElement, OfToken, OfLock}
-use Rattle.pv_meaning.specs.Worlds.{ThreadState}
+use Rattle.pv_picks.specs.Plain.Core.{Parameter, Message}
+use Rattle.pv_picks.specs.Formulas.Evaluation.{Scene}
+use Rattle.pv_picks.specs.Formulas.Heaps.{Heap, at_number}
+use Rattle.pv_picks.specs.Judge.States.{Resource, InField, InElement, OfToken, OfLock}
+use Rattle.pv_picks.specs.Machine.Worlds.{ThreadState}
 use Rattle.account_formulas.specs.Owning.{Amounts, IsPlaced}
 use Rattle.account.specs.Frames.{Run, all_of}
 

@@ -4,18 +4,18 @@ use Rattle.pv_base.specs.declared.Span.{Span}
 use Rattle.pv_ast.specs.declared.PvType.{PvType}
 use Rattle.pv_values.specs.declared.value.Value.{Value}
 use Rattle.pv_values.specs.declared.value.Value.TheVariants as value
-use Rattle.pv_meaning.specs.declared.check.Check.{Check}
-use Rattle.pv_meaning.specs.declared.check.Check.TheVariants as check
-use Rattle.pv_meaning.specs.Core.{Expression, Formula, Parameter, Program, Team, Block}
-use Rattle.pv_meaning.specs.Members.{predicate_named, method_named}
-use Rattle.pv_meaning.specs.Values.{number_in, truth_in, reference_in}
-use Rattle.pv_meaning.specs.States.{with_local, with_result}
-use Rattle.pv_meaning.specs.Settings.{Setting, Next, unless_null, operate}
-use Rattle.pv_meaning.specs.Tasks.{FieldOf, ElementOf, Loop, Step, AtRead, AtWrite, AtLength, AtNewObject, AtNewArray, AtAssert, AtFold, AtHead, AtCall, AtAction, AtOpen, AtClose, AtArrive, AtLeave, AtSend, AtReceive, Combination, Computed, Task, Evaluate, EvaluateAll, Combine, Choose, Branch, Turn, Put, Drop, Give, Unfolded, Run, Stand, Resume}
-use Rattle.pv_meaning.specs.Frames.{top, second, topmost, object_under, combined}
-use Rattle.pv_meaning.specs.Rows.{Site, access_reader, compute, write_field, write_element, call, new_object, new_array}
-use Rattle.pv_meaning.specs.Judging.{finish, exhale_own, inhale_at_site, at_body_end, judge_action, fold_in, unfold_in, assert, loop, team, barrier, send, receive, inside, judge_block}
-use Rattle.typed_programs.specs.Expressions.{Speech}
+use Rattle.pv_picks.specs.declared.check.Check.{Check}
+use Rattle.pv_picks.specs.declared.check.Check.TheVariants as check
+use Rattle.pv_picks.specs.Plain.Core.{Expression, Formula, Parameter, Program, Team, Block}
+use Rattle.pv_picks.specs.Plain.Members.{predicate_named, method_named}
+use Rattle.pv_picks.specs.Formulas.Values.{number_in, truth_in, reference_in}
+use Rattle.pv_picks.specs.Judge.States.{with_local, with_result}
+use Rattle.pv_picks.specs.Judge.Settings.{Setting, Next, unless_null, operate}
+use Rattle.pv_picks.specs.Machine.Tasks.{FieldOf, ElementOf, Loop, Step, AtRead, AtWrite, AtLength, AtNewObject, AtNewArray, AtAssert, AtFold, AtHead, AtCall, AtAction, AtOpen, AtClose, AtArrive, AtLeave, AtSend, AtReceive, Combination, Computed, Task, Evaluate, EvaluateAll, Combine, Choose, Branch, Turn, Put, Drop, Give, Unfolded, Run, Stand, Resume}
+use Rattle.pv_picks.specs.Machine.Frames.{top, second, topmost, object_under, combined}
+use Rattle.pv_picks.specs.Judge.Rows.{Site, access_reader, compute, write_field, write_element, call, new_object, new_array}
+use Rattle.pv_picks.specs.Judge.Judging.{finish, exhale_own, inhale_at_site, at_body_end, judge_action, fold_in, unfold_in, assert, loop, team, barrier, send, receive, inside, judge_block}
+use Rattle.pv_picks.specs.Typing.Expressions.{Speech}
 
 -- The body of which a frame is the run, of a method or of a member of a block: the variables in scope at its head, the type of
 -- what it returns to a call, if it returns to one, and what formulas in it may speak of. At its end a formula is to be shown, in

@@ -6,16 +6,16 @@ use Rattle.pv_base.specs.declared.Span.{Span}
 use Rattle.pv_ast.specs.declared.PvType.{PvType}
 use Rattle.pv_ast.specs.declared.PvType.TheVariants.{Int, Truth, Object}
 use Rattle.pv_values.specs.declared.value.Value.{Value}
-use Rattle.pv_meaning.specs.declared.check.Check.TheVariants as check
-use Rattle.pv_meaning.specs.Core.{Manner, Operation, Comparison, Expression, Parameter, Predicate, Method, Block}
-use Rattle.pv_meaning.specs.Members.{predicate_named}
-use Rattle.pv_meaning.specs.Tasks.{Loop, Step, AtAssert, AtHead, AtOpen, AtClose, AtArrive, AtLeave, AtSend, AtReceive, Negated, Computed, Compared, Matched, Task, Evaluate, EvaluateAll, Combine, Choose, Branch, Turn, Put, Drop, Give, Unfolded, Run, Stand, Resume}
-use Rattle.pv_picks.specs.Returns.{GoesOn}
-use Rattle.typed_programs.specs.Expressions.{Home, Speech, silent, answer_of, type_in, IsDeclared, IsOf, onto}
-use Rattle.typed_programs.specs.Blocks.{types_of, gives, inside}
-use Rattle.typed_programs.specs.Tasks.{StepFits, IsWithin, IsAnswered}
-use Rattle.typing_laws.specs.Assigned.{BlockAssigns, IsListed}
-use Rattle.typing_laws.specs.Formulas.{FormulaFits, SharedFits, BarrierFits, MessageFits, OnceEach, AreVariables, BlockSays}
+use Rattle.pv_picks.specs.declared.check.Check.TheVariants as check
+use Rattle.pv_picks.specs.Plain.Core.{Manner, Operation, Comparison, Expression, Parameter, Predicate, Method, Block}
+use Rattle.pv_picks.specs.Plain.Members.{predicate_named}
+use Rattle.pv_picks.specs.Machine.Tasks.{Loop, Step, AtAssert, AtHead, AtOpen, AtClose, AtArrive, AtLeave, AtSend, AtReceive, Negated, Computed, Compared, Matched, Task, Evaluate, EvaluateAll, Combine, Choose, Branch, Turn, Put, Drop, Give, Unfolded, Run, Stand, Resume}
+use Rattle.core_trees.specs.Returns.{GoesOn}
+use Rattle.pv_picks.specs.Typing.Expressions.{Home, Speech, silent, answer_of, type_in, IsDeclared, IsOf, onto}
+use Rattle.pv_picks.specs.Typing.Blocks.{types_of, gives, inside}
+use Rattle.pv_picks.specs.Typing.Tasks.{StepFits, IsWithin, IsAnswered}
+use Rattle.core_trees.specs.Assigned.{BlockAssigns, IsListed}
+use Rattle.core_trees.specs.Formulas.{FormulaFits, SharedFits, BarrierFits, MessageFits, OnceEach, AreVariables, BlockSays}
 use Rattle.account.specs.Running.{goes_inside}
 
 -- an open loop: the variables in scope at its head, and those that it assigns

@@ -1,23 +1,23 @@
 -- What the laws of this crate say.
 use Rattle.std.specs.Prelude.{◌≡◌, ◌≤◌, ◌<◌, ℕ, Bool, false, nat_eq, Some, List, []}
 use Rattle.pv_base.specs.declared.Name.{Name}
-use Rattle.pv_meaning.specs.Core.{Predicate, Method, Program}
-use Rattle.pv_meaning.specs.Frames.{Frame, only_now, outer_scene, settled}
+use Rattle.pv_picks.specs.Plain.Core.{Predicate, Method, Program}
+use Rattle.pv_picks.specs.Machine.Frames.{Frame, only_now, outer_scene, settled}
 use Rattle.account_formulas.specs.Growing.{HeapFits}
 use Rattle.account_formulas.specs.Gaining.{PredicatesFit}
 use Rattle.pv_ast.specs.declared.PvType.TheVariants.{Object}
 use Rattle.pv_values.specs.declared.value.Value.{Value}
 use Rattle.pv_values.specs.declared.value.Value.TheVariants as value
-use Rattle.pv_meaning.specs.Heaps.{Heap}
+use Rattle.pv_picks.specs.Formulas.Heaps.{Heap}
 use Rattle.pv_fraction.specs.Amounts.{whole}
-use Rattle.pv_meaning.specs.States.{Resource}
-use Rattle.pv_meaning.specs.Members.{predicate_named}
-use Rattle.pv_meaning.specs.Units.{OfMethod, OfFormula, judge_task}
-use Rattle.machine_laws.specs.Typed.{IsUnused}
-use Rattle.typed_programs.specs.Expressions.{silent}
-use Rattle.typed_programs.specs.Blocks.{types_of, over, MethodFits}
-use Rattle.typed_programs.specs.Frames.{HasType}
-use Rattle.typing_laws.specs.Formulas.{AreDeclared, in_class, MethodSays}
+use Rattle.pv_picks.specs.Judge.States.{Resource}
+use Rattle.pv_picks.specs.Plain.Members.{predicate_named}
+use Rattle.pv_picks.specs.Judge.UnitRuns.{OfMethod, OfFormula, judge_task}
+use Rattle.pv_picks.specs.Typing.Heaps.{IsUnused}
+use Rattle.pv_picks.specs.Typing.Expressions.{silent}
+use Rattle.pv_picks.specs.Typing.Blocks.{types_of, over, MethodFits}
+use Rattle.pv_picks.specs.Typing.Frames.{HasType}
+use Rattle.core_trees.specs.Formulas.{AreDeclared, in_class, MethodSays}
 use Rattle.account_formulas.specs.Runs.{truly, RestNeverFails}
 use Rattle.account_formulas.specs.Good.{IsGood}
 use Rattle.account_formulas.specs.Owning.{Amounts, Owns}

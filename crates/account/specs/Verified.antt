@@ -1,10 +1,10 @@
 -- Programs that are typed throughout, on none of whose parts the judge fails.
 use Rattle.std.specs.Prelude.{◌≡◌, Some, []}
 use Rattle.pv_base.specs.declared.Name.{Name}
-use Rattle.pv_meaning.specs.Core.{Program, Predicate, Method, Formula}
-use Rattle.pv_meaning.specs.Members.{predicate_named, method_named, run_of, invariant_of}
-use Rattle.pv_meaning.specs.Units.{Task, OfMethod, OfFormula, judge_task}
-use Rattle.typing_laws.specs.Programs.{IsTypedThroughout}
+use Rattle.pv_picks.specs.Plain.Core.{Program, Predicate, Method, Formula}
+use Rattle.pv_picks.specs.Plain.Members.{predicate_named, method_named, run_of, invariant_of}
+use Rattle.pv_picks.specs.Judge.UnitRuns.{Task, OfMethod, OfFormula, judge_task}
+use Rattle.core_trees.specs.Throughout.{IsTypedThroughout}
 use Rattle.account_formulas.specs.Runs.{truly, RestNeverFails}
 use Rattle.account_formulas.specs.Gaining.{nothing_taken}
 

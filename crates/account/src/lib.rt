@@ -3,7 +3,7 @@
 #![tactic(auto)]
 
 ghost use Rattle.account.specs.Statements.{LocalWorkKeepsRuns, CallsBegin, PredicatesAreTaken};
-ghost use Rattle.account.specs.Grounds.{FormulasAreGood, HeapsFit, PredicatesAreTakenIn, ProgramsAreVerifiedThroughout};
+ghost use Rattle.account.specs.Grounds.{FormulasAreGood, HeapsFit, PredicatesAreTakenIn};
 
 /// Local work keeps the run of a frame, with no more than it had.
 pub fn local_work_keeps_runs()
@@ -34,9 +34,4 @@ pub fn reached_heaps_fit()
 /// The predicates of a program that is verified throughout can be taken in where nothing is held.
 pub fn predicates_are_taken_in()
     ensures { PredicatesAreTakenIn }
-{}
-
-/// What a well formed program becomes is verified throughout where no evidence makes the judge fail on any of its units.
-pub fn verified_programs_are_verified_throughout()
-    ensures { ProgramsAreVerifiedThroughout }
 {}

@@ -4,12 +4,12 @@ use Rattle.std.specs.Prelude.{not}
 use Rattle.pv_values.specs.declared.value.Value.{Value}
 use Rattle.pv_values.specs.declared.value.Location.{Location}
 use Rattle.pv_fraction.specs.Amounts.{whole}
-use Rattle.pv_meaning.specs.Core.{Message, Program}
-use Rattle.pv_meaning.specs.States.{Resource}
-use Rattle.pv_meaning.specs.Tasks.{AtClose, Step, Task, Stand}
-use Rattle.pv_meaning.specs.Frames.{Frame, settled}
-use Rattle.pv_meaning.specs.Worlds.{Mode, World, has_no_frame, is_held_back, with_frames, with_heap}
-use Rattle.pv_meaning.specs.Steps.{waits_unless, act_step, act_tasks, act_frames, act}
+use Rattle.pv_picks.specs.Plain.Core.{Message, Program}
+use Rattle.pv_picks.specs.Judge.States.{Resource}
+use Rattle.pv_picks.specs.Machine.Tasks.{AtClose, Step, Task, Stand}
+use Rattle.pv_picks.specs.Machine.Frames.{Frame, settled}
+use Rattle.pv_picks.specs.Machine.Worlds.{Mode, World, has_no_frame, is_held_back, with_frames, with_heap}
+use Rattle.pv_picks.specs.Machine.Steps.{waits_unless, act_step, act_tasks, act_frames, act}
 use Rattle.account_formulas.specs.Growing.{HeapFits}
 use Rattle.account_formulas.specs.Gaining.{PredicatesFit}
 use Rattle.account_formulas.specs.Owning.{Amounts, KeepsHeld}

@@ -1,16 +1,16 @@
 -- The label of an assert: the formula is given up on a copy, so it is met; what was learned stays.
 use Rattle.std.proofs.Common.{◌≡◌, false, List, ◌∷◌, refl, sym, subst, arith}
 use Rattle.pv_ast.specs.declared.PvType.{PvType}
-use Rattle.pv_meaning.specs.declared.check.Check.TheVariants as check
-use Rattle.pv_meaning.specs.Core.{Formula, Program}
-use Rattle.pv_meaning.specs.Heaps.{Heap}
-use Rattle.pv_meaning.specs.States.{having_learned, scene_of}
-use Rattle.pv_meaning.specs.Tasks.{AtAssert, Task, Stand}
-use Rattle.pv_meaning.specs.Frames.{Frame, goes_on, settled}
-use Rattle.pv_meaning.specs.Worlds.{with_frames}
-use Rattle.pv_meaning.specs.Steps.{Result, needs_met}
-use Rattle.typed_programs.specs.Tasks.{at_assert}
-use Rattle.typing_laws.specs.Formulas.{FormulaFits}
+use Rattle.pv_picks.specs.declared.check.Check.TheVariants as check
+use Rattle.pv_picks.specs.Plain.Core.{Formula, Program}
+use Rattle.pv_picks.specs.Formulas.Heaps.{Heap}
+use Rattle.pv_picks.specs.Judge.States.{having_learned, scene_of}
+use Rattle.pv_picks.specs.Machine.Tasks.{AtAssert, Task, Stand}
+use Rattle.pv_picks.specs.Machine.Frames.{Frame, goes_on, settled}
+use Rattle.pv_picks.specs.Machine.Worlds.{with_frames}
+use Rattle.pv_picks.specs.Machine.Steps.{Result, needs_met}
+use Rattle.pv_picks.specs.Typing.Tasks.{at_assert}
+use Rattle.core_trees.specs.Formulas.{FormulaFits}
 use Rattle.account_formulas.specs.Runs.{truly}
 use Rattle.account_formulas.specs.Owning.{Owns}
 use Rattle.account_formulas.specs.Giving.{Gave}

@@ -8,22 +8,22 @@ use Rattle.pv_ast.specs.declared.PvType.{PvType}
 use Rattle.pv_ast.specs.declared.PvType.TheVariants.{Int, Truth, Object}
 use Rattle.pv_values.specs.declared.value.Value.{Value}
 use Rattle.pv_values.specs.declared.value.Value.TheVariants as value
-use Rattle.pv_meaning.specs.declared.check.Check.TheVariants as check
-use Rattle.pv_meaning.specs.declared.evidence.Pick.{Pick}
-use Rattle.pv_meaning.specs.Core.{Manner, Plain, Tabled, Expression, Constant, This, Result, Variable, Field, Element, Length, Not, Compute, Compare, Equal, And, Or, Implies, Old, Parameter}
-use Rattle.pv_meaning.specs.Values.{number_in, truth_in, reference_in, array_of, arithmetic, comparison, equality, same_type, within}
-use Rattle.pv_meaning.specs.Heaps.{Heap}
-use Rattle.pv_meaning.specs.Evaluation.{Scene, evaluate}
-use Rattle.pv_meaning.specs.Meeting.{or_stop, heap_reader}
-use Rattle.pv_meaning.specs.Starts.{field_kind, kind_of}
-use Rattle.pv_meaning.specs.States.{Resource, InField, InElement, Holding, State}
-use Rattle.pv_meaning.specs.Settings.{Next, known_or_picked, look_at_length, operate, or_missing}
-use Rattle.pv_meaning.specs.Frames.{only_now}
-use Rattle.pv_meaning.specs.Rows.{access_reader}
-use Rattle.pv_meaning.specs.Judge.{Judged, Maps, content}
-use Rattle.meaning_laws.proofs.Sames.{naturals_same, types_same}
-use Rattle.typed_programs.specs.Expressions.{Home, silent, Says}
-use Rattle.typed_programs.specs.Frames.{HasType}
+use Rattle.pv_picks.specs.declared.check.Check.TheVariants as check
+use Rattle.pv_picks.specs.declared.evidence.Pick.{Pick}
+use Rattle.pv_picks.specs.Plain.Core.{Manner, Plain, Tabled, Expression, Constant, This, Result, Variable, Field, Element, Length, Not, Compute, Compare, Equal, And, Or, Implies, Old, Parameter}
+use Rattle.pv_picks.specs.Formulas.Values.{number_in, truth_in, reference_in, array_of, arithmetic, comparison, equality, same_type, within}
+use Rattle.pv_picks.specs.Formulas.Heaps.{Heap}
+use Rattle.pv_picks.specs.Formulas.Evaluation.{Scene, evaluate}
+use Rattle.pv_picks.specs.Formulas.Meeting.{or_stop, heap_reader}
+use Rattle.pv_picks.specs.Machine.Starts.{field_kind, kind_of}
+use Rattle.pv_picks.specs.Judge.States.{Resource, InField, InElement, Holding, State}
+use Rattle.pv_picks.specs.Judge.Settings.{Next, known_or_picked, look_at_length, operate, or_missing}
+use Rattle.pv_picks.specs.Machine.Frames.{only_now}
+use Rattle.pv_picks.specs.Judge.Rows.{access_reader}
+use Rattle.pv_picks.specs.Judge.Runs.{Judged, Maps, content}
+use Rattle.pv_picks.proofs.Sames.{naturals_same, types_same}
+use Rattle.pv_picks.specs.Typing.Expressions.{Home, silent, Says}
+use Rattle.pv_picks.specs.Typing.Frames.{HasType}
 use Rattle.account_formulas.specs.Sights.{Lengths, LengthsAgree, Stands, SceneFits, value_at}
 use Rattle.account_formulas.specs.Runs.{Taken, all_maps, truly, RestNeverFails, with_lengths}
 use Rattle.account_formulas.specs.Growing.{StateFits, HeapFits}

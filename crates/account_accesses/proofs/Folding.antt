@@ -9,24 +9,24 @@ use Rattle.pv_ast.specs.declared.PvType.TheVariants.{Object}
 use Rattle.pv_fraction.specs.Amounts.{whole}
 use Rattle.pv_values.specs.declared.value.Value.{Value}
 use Rattle.pv_values.specs.declared.value.Value.TheVariants as value
-use Rattle.pv_meaning.specs.declared.check.Check.TheVariants as check
-use Rattle.pv_meaning.specs.Core.{Predicate, Program}
-use Rattle.pv_meaning.specs.Members.{predicate_named}
-use Rattle.pv_meaning.specs.Heaps.{Heap}
-use Rattle.pv_meaning.specs.Meeting.{found_met}
-use Rattle.pv_meaning.specs.States.{Resource, Folded}
-use Rattle.pv_meaning.specs.Permissions.{add_instance}
-use Rattle.pv_meaning.specs.Judging.{fold_in}
-use Rattle.pv_meaning.specs.Tasks.{AtFold, Task, Stand}
-use Rattle.pv_meaning.specs.Frames.{Frame, topmost, object_under, pops, settled, only_now, outer_scene}
-use Rattle.pv_meaning.specs.Worlds.{with_frames}
-use Rattle.pv_meaning.specs.Steps.{Result, needs, not_null, act_fold, act_step}
-use Rattle.typed_programs.specs.Expressions.{silent, onto}
-use Rattle.typed_programs.specs.Blocks.{types_of, over}
-use Rattle.typed_programs.specs.Tasks.{at_fold}
-use Rattle.typed_programs.specs.Frames as typed
-use Rattle.typed_programs.specs.Frames.{HasType}
-use Rattle.typed_programs.proofs.Local.{under-fits, rest-fits, drop-one}
+use Rattle.pv_picks.specs.declared.check.Check.TheVariants as check
+use Rattle.pv_picks.specs.Plain.Core.{Predicate, Program}
+use Rattle.pv_picks.specs.Plain.Members.{predicate_named}
+use Rattle.pv_picks.specs.Formulas.Heaps.{Heap}
+use Rattle.pv_picks.specs.Formulas.Meeting.{found_met}
+use Rattle.pv_picks.specs.Judge.States.{Resource, Folded}
+use Rattle.pv_picks.specs.Judge.Permissions.{add_instance}
+use Rattle.pv_picks.specs.Judge.Judging.{fold_in}
+use Rattle.pv_picks.specs.Machine.Tasks.{AtFold, Task, Stand}
+use Rattle.pv_picks.specs.Machine.Frames.{Frame, topmost, object_under, pops, settled, only_now, outer_scene}
+use Rattle.pv_picks.specs.Machine.Worlds.{with_frames}
+use Rattle.pv_picks.specs.Machine.Steps.{Result, needs, not_null, act_fold, act_step}
+use Rattle.pv_picks.specs.Typing.Expressions.{silent, onto}
+use Rattle.pv_picks.specs.Typing.Blocks.{types_of, over}
+use Rattle.pv_picks.specs.Typing.Tasks.{at_fold}
+use Rattle.pv_picks.specs.Typing.Frames as typed
+use Rattle.pv_picks.specs.Typing.Frames.{HasType}
+use Rattle.machine_laws.proofs.Local.{under-fits, rest-fits, drop-one}
 use Rattle.account_formulas.specs.Runs.{truly, RestNeverFails}
 use Rattle.account_formulas.specs.Owning.{Amounts, Owns, KeepsOwning, HasTrees}
 use Rattle.account_formulas.specs.Growing.{HeapFits}

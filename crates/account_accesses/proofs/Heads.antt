@@ -5,17 +5,17 @@ use Rattle.std.specs.List.{AllByRecursion}
 use Rattle.pv_ast.specs.declared.PvType.{PvType}
 use Rattle.pv_values.specs.declared.value.Value.{Value}
 use Rattle.pv_fraction.specs.Amounts.{whole}
-use Rattle.pv_meaning.specs.declared.check.Check.{Check}
-use Rattle.pv_meaning.specs.declared.check.Check.TheVariants as check
-use Rattle.pv_meaning.specs.Core.{Parameter, Program}
-use Rattle.pv_meaning.specs.Meeting.{IsMet, unmet}
-use Rattle.pv_meaning.specs.States.{Resource, scene_of}
-use Rattle.pv_meaning.specs.Judging.{finish}
-use Rattle.pv_meaning.specs.Tasks.{AtHead, Loop, Task, Evaluate, Turn, Stand}
-use Rattle.pv_meaning.specs.Frames.{Frame, goes_on, settled, sight_of, body_scene}
-use Rattle.pv_meaning.specs.Worlds.{World, with_frames}
-use Rattle.pv_meaning.specs.Steps.{Result, needs_met}
-use Rattle.typed_programs.specs.Tasks.{IsWithin}
+use Rattle.pv_picks.specs.declared.check.Check.{Check}
+use Rattle.pv_picks.specs.declared.check.Check.TheVariants as check
+use Rattle.pv_picks.specs.Plain.Core.{Parameter, Program}
+use Rattle.pv_picks.specs.Formulas.Meeting.{IsMet, unmet}
+use Rattle.pv_picks.specs.Judge.States.{Resource, scene_of}
+use Rattle.pv_picks.specs.Judge.Judging.{finish}
+use Rattle.pv_picks.specs.Machine.Tasks.{AtHead, Loop, Task, Evaluate, Turn, Stand}
+use Rattle.pv_picks.specs.Machine.Frames.{Frame, goes_on, settled, sight_of, body_scene}
+use Rattle.pv_picks.specs.Machine.Worlds.{World, with_frames}
+use Rattle.pv_picks.specs.Machine.Steps.{Result, needs_met}
+use Rattle.pv_picks.specs.Typing.Tasks.{IsWithin}
 use Rattle.account_formulas.specs.Runs.{truly}
 use Rattle.account_formulas.specs.Owning.{Owns}
 use Rattle.account_formulas.specs.Giving.{Gave, with_left}
@@ -23,7 +23,7 @@ use Rattle.account_formulas.proofs.Laws.{left_fits}
 use Rattle.account.specs.Running.{ran}
 use Rattle.account.specs.Scoped.{Standing, IsInLoop, IsLoopIn, TasksSay, FrameSays, stands, begins, goes_back}
 use Rattle.account.specs.Messages.{TasksExchange}
-use Rattle.core_laws.specs.Stacks.{AreBalanced, StacksFit}
+use Rattle.core_names.specs.Stacks.{AreBalanced, StacksFit}
 use Rattle.account.specs.Frames as account
 use Rattle.account.specs.Frames.{Part, outer_of, amounts_of, all_of, sight_in, standing_in, opened, called_of, turns_of, TakesTurns, AllTakeTurns, IsRunOf, AllWait}
 use Rattle.account.specs.Accounts.{Account, Kept}

@@ -6,18 +6,18 @@ use Rattle.pv_ast.specs.declared.PvType.{PvType}
 use Rattle.pv_ast.specs.declared.PvType.TheVariants.{Int, Truth, Object, IntArray, TruthArray, Null}
 use Rattle.pv_values.specs.declared.value.Value.{Value}
 use Rattle.pv_values.specs.declared.value.Value.TheVariants as value
-use Rattle.pv_meaning.specs.declared.check.Check.TheVariants as check
-use Rattle.pv_meaning.specs.Core.{Program}
-use Rattle.pv_meaning.specs.Values.{reference_in, array_of}
-use Rattle.pv_meaning.specs.Heaps.{Heap}
-use Rattle.pv_meaning.specs.Tasks.{AtLength, Task, Stand}
-use Rattle.pv_meaning.specs.Frames.{Frame, top}
-use Rattle.pv_meaning.specs.Worlds.{World}
-use Rattle.pv_meaning.specs.Steps.{act_length}
-use Rattle.typed_programs.specs.Tasks.{takes_length}
-use Rattle.typed_programs.specs.Frames as typed
-use Rattle.typed_programs.specs.Frames.{HasType}
-use Rattle.typed_programs.proofs.Local.{top-fits, rest-fits}
+use Rattle.pv_picks.specs.declared.check.Check.TheVariants as check
+use Rattle.pv_picks.specs.Plain.Core.{Program}
+use Rattle.pv_picks.specs.Formulas.Values.{reference_in, array_of}
+use Rattle.pv_picks.specs.Formulas.Heaps.{Heap}
+use Rattle.pv_picks.specs.Machine.Tasks.{AtLength, Task, Stand}
+use Rattle.pv_picks.specs.Machine.Frames.{Frame, top}
+use Rattle.pv_picks.specs.Machine.Worlds.{World}
+use Rattle.pv_picks.specs.Machine.Steps.{act_length}
+use Rattle.pv_picks.specs.Typing.Tasks.{takes_length}
+use Rattle.pv_picks.specs.Typing.Frames as typed
+use Rattle.pv_picks.specs.Typing.Frames.{HasType}
+use Rattle.machine_laws.proofs.Local.{top-fits, rest-fits}
 use Rattle.account_formulas.specs.Sights.{Lengths, LengthsAgree}
 use Rattle.account_formulas.specs.Runs.{truly, RestNeverFails, with_lengths}
 use Rattle.account_formulas.proofs.Lengths.{length_looked}

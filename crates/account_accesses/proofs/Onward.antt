@@ -7,14 +7,14 @@ use Rattle.pv_base.specs.declared.Span.{Span}
 use Rattle.pv_values.specs.declared.value.Value.{Value}
 use Rattle.pv_values.specs.declared.value.Location.{Location}
 use Rattle.pv_values.specs.Heaps.{same_name}
-use Rattle.pv_meaning.specs.Core.{Barrier, Message, Program}
-use Rattle.pv_meaning.specs.Heaps.{Heap}
-use Rattle.pv_meaning.specs.Members.{run_of}
-use Rattle.pv_meaning.specs.States.{Resource, OfLock}
-use Rattle.pv_meaning.specs.Tasks.{AtClose, AtLeave, Task, Stand}
-use Rattle.pv_meaning.specs.Frames.{Frame, outer_scene}
-use Rattle.pv_meaning.specs.Worlds.{Role, Entry, RunOf, MemberOf, Thread, OpenBlock, World, has_no_frame, with_frames, with_heap}
-use Rattle.meaning_laws.proofs.Sames.{naturals_same}
+use Rattle.pv_picks.specs.Plain.Core.{Barrier, Message, Program}
+use Rattle.pv_picks.specs.Formulas.Heaps.{Heap}
+use Rattle.pv_picks.specs.Plain.Members.{run_of}
+use Rattle.pv_picks.specs.Judge.States.{Resource, OfLock}
+use Rattle.pv_picks.specs.Machine.Tasks.{AtClose, AtLeave, Task, Stand}
+use Rattle.pv_picks.specs.Machine.Frames.{Frame, outer_scene}
+use Rattle.pv_picks.specs.Machine.Worlds.{Role, Entry, RunOf, MemberOf, Thread, OpenBlock, World, has_no_frame, with_frames, with_heap}
+use Rattle.pv_picks.proofs.Sames.{naturals_same}
 use Rattle.account_formulas.specs.Owning.{Amounts, KeepsHeld}
 use Rattle.account_formulas.specs.Still.{IsStill}
 use Rattle.account.specs.Frames as account

@@ -10,16 +10,16 @@ use Rattle.pv_values.specs.declared.value.Location.{Location}
 use Rattle.pv_values.specs.declared.value.Location.TheVariants as location
 use Rattle.pv_values.specs.Heaps.{same_location}
 use Rattle.pv_values.specs.Typing.{Kind, is_number, is_truth}
-use Rattle.pv_meaning.specs.Core.{Program}
-use Rattle.pv_meaning.specs.Values.{array_of}
-use Rattle.pv_meaning.specs.Heaps.{Heap, written}
-use Rattle.pv_meaning.specs.Labels.{Label}
-use Rattle.pv_meaning.specs.States.{Resource, InField, InElement, OfToken, OfLock}
-use Rattle.pv_meaning.specs.Starts.{field_kind}
-use Rattle.machine_laws.specs.Typed.{HoldsOnly, IsTypedHeap, HasKindOf, FitsAt}
+use Rattle.pv_picks.specs.Plain.Core.{Program}
+use Rattle.pv_picks.specs.Formulas.Values.{array_of}
+use Rattle.pv_picks.specs.Formulas.Heaps.{Heap, written}
+use Rattle.pv_picks.specs.Machine.Labels.{Label}
+use Rattle.pv_picks.specs.Judge.States.{Resource, InField, InElement, OfToken, OfLock}
+use Rattle.pv_picks.specs.Machine.Starts.{field_kind}
+use Rattle.pv_picks.specs.Typing.Heaps.{HoldsOnly, IsTypedHeap, HasKindOf, FitsAt}
 use Rattle.machine_laws.proofs.Typed.{location_same, after-keeps}
-use Rattle.typed_programs.specs.Expressions.{IsElement}
-use Rattle.typed_programs.specs.Frames.{HasType}
+use Rattle.pv_picks.specs.Typing.Expressions.{IsElement}
+use Rattle.pv_picks.specs.Typing.Frames.{HasType}
 use Rattle.account_formulas.specs.Sights.{Stands}
 use Rattle.account_formulas.specs.Owning.{Amounts, IsPlaced, KeepsHeld}
 use Rattle.account_formulas.specs.Growing.{HeapFits}

@@ -6,19 +6,19 @@ use Rattle.pv_base.specs.declared.Span.{Span}
 use Rattle.pv_fraction.specs.Amounts.{whole}
 use Rattle.pv_values.specs.declared.value.Value.{Value}
 use Rattle.pv_values.specs.declared.value.Location.{Location}
-use Rattle.pv_meaning.specs.declared.check.Check.TheVariants as check
-use Rattle.pv_meaning.specs.Core.{Program, Action, Fork, Join', Lock, Unlock, Commit}
-use Rattle.pv_meaning.specs.Values.{number_in, reference_in}
-use Rattle.pv_meaning.specs.Heaps.{Heap}
-use Rattle.pv_meaning.specs.Labels.{Label}
-use Rattle.pv_meaning.specs.States.{Resource, InField, InElement, Holding, State, amount_held, amount_of}
-use Rattle.pv_meaning.specs.Settings.{or_missing}
-use Rattle.pv_meaning.specs.Tasks.{Spot, FieldOf, ElementOf, AtRead, AtWrite, AtAction, Task, Stand}
-use Rattle.pv_meaning.specs.Frames.{Frame, top, second, location_on}
-use Rattle.pv_meaning.specs.Worlds.{Role, MemberOf, World, next, label_of_frames, label_of_frame, label_of_end, label_of_action, has_no_frame}
-use Rattle.pv_meaning.specs.Safety.{Writes, Reads}
-use Rattle.pv_meaning.specs.Judge.{Judged, Maps}
-use Rattle.meaning_laws.proofs.Sames.{naturals_same}
+use Rattle.pv_picks.specs.declared.check.Check.TheVariants as check
+use Rattle.pv_picks.specs.Plain.Core.{Program, Action, Fork, Join', Lock, Unlock, Commit}
+use Rattle.pv_picks.specs.Formulas.Values.{number_in, reference_in}
+use Rattle.pv_picks.specs.Formulas.Heaps.{Heap}
+use Rattle.pv_picks.specs.Machine.Labels.{Label}
+use Rattle.pv_picks.specs.Judge.States.{Resource, InField, InElement, Holding, State, amount_held, amount_of}
+use Rattle.pv_picks.specs.Judge.Settings.{or_missing}
+use Rattle.pv_picks.specs.Machine.Tasks.{Spot, FieldOf, ElementOf, AtRead, AtWrite, AtAction, Task, Stand}
+use Rattle.pv_picks.specs.Machine.Frames.{Frame, top, second, location_on}
+use Rattle.pv_picks.specs.Machine.Worlds.{Role, MemberOf, World, next, label_of_frames, label_of_frame, label_of_end, label_of_action, has_no_frame}
+use Rattle.pv_picks.specs.Machine.Safety.{Writes, Reads}
+use Rattle.pv_picks.specs.Judge.Runs.{Judged, Maps}
+use Rattle.pv_picks.proofs.Sames.{naturals_same}
 use Rattle.account_formulas.specs.Runs.{Taken, truly, RestNeverFails}
 use Rattle.account_formulas.specs.Growing.{StateFits, HeapFits}
 use Rattle.account.specs.Running.{ran}

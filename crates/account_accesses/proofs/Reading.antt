@@ -7,24 +7,24 @@ use Rattle.pv_ast.specs.declared.PvType.{PvType}
 use Rattle.pv_ast.specs.declared.PvType.TheVariants.{Int, Object}
 use Rattle.pv_values.specs.declared.value.Value.{Value}
 use Rattle.pv_values.specs.Changes.{owner_of}
-use Rattle.pv_meaning.specs.declared.check.Check.{Check}
-use Rattle.pv_meaning.specs.declared.check.Check.TheVariants as check
-use Rattle.pv_meaning.specs.Core.{Program}
-use Rattle.pv_meaning.specs.Values.{number_in, reference_in, within}
-use Rattle.pv_meaning.specs.Heaps.{Heap}
-use Rattle.pv_meaning.specs.States.{Resource, InField, InElement, Holding, State, with_length}
-use Rattle.pv_meaning.specs.Settings.{Next, known_or_picked, look_at_length, or_missing}
-use Rattle.pv_meaning.specs.Tasks.{Spot, FieldOf, ElementOf, AtRead, Task, Stand}
-use Rattle.pv_meaning.specs.Frames.{Frame, top, second, location_on, breadth}
-use Rattle.pv_meaning.specs.Worlds.{Mode, World}
-use Rattle.pv_meaning.specs.Steps.{needs, not_null, read, act}
-use Rattle.pv_meaning.specs.Judge.{Judged, Maps, content}
-use Rattle.meaning_laws.proofs.Sames.{front, back}
-use Rattle.typed_programs.specs.Tasks.{reads_field, reads_element}
-use Rattle.typed_programs.specs.Frames as typed
-use Rattle.typed_programs.specs.Frames.{HasType}
-use Rattle.typed_programs.proofs.Local.{top-fits, rest-fits, two-fit}
-use Rattle.typed_programs.proofs.Kept.{read-field, read-element}
+use Rattle.pv_picks.specs.declared.check.Check.{Check}
+use Rattle.pv_picks.specs.declared.check.Check.TheVariants as check
+use Rattle.pv_picks.specs.Plain.Core.{Program}
+use Rattle.pv_picks.specs.Formulas.Values.{number_in, reference_in, within}
+use Rattle.pv_picks.specs.Formulas.Heaps.{Heap}
+use Rattle.pv_picks.specs.Judge.States.{Resource, InField, InElement, Holding, State, with_length}
+use Rattle.pv_picks.specs.Judge.Settings.{Next, known_or_picked, look_at_length, or_missing}
+use Rattle.pv_picks.specs.Machine.Tasks.{Spot, FieldOf, ElementOf, AtRead, Task, Stand}
+use Rattle.pv_picks.specs.Machine.Frames.{Frame, top, second, location_on, breadth}
+use Rattle.pv_picks.specs.Machine.Worlds.{Mode, World}
+use Rattle.pv_picks.specs.Machine.Steps.{needs, not_null, read, act}
+use Rattle.pv_picks.specs.Judge.Runs.{Judged, Maps, content}
+use Rattle.pv_picks.proofs.Sames.{front, back}
+use Rattle.pv_picks.specs.Typing.Tasks.{reads_field, reads_element}
+use Rattle.pv_picks.specs.Typing.Frames as typed
+use Rattle.pv_picks.specs.Typing.Frames.{HasType}
+use Rattle.machine_laws.proofs.Local.{top-fits, rest-fits, two-fit}
+use Rattle.machine_laws.proofs.Kept.{read-field, read-element}
 use Rattle.account_formulas.specs.Sights.{Stands}
 use Rattle.account_formulas.specs.Runs.{Taken, truly, all_maps, RestNeverFails}
 use Rattle.account_formulas.specs.Growing.{StateFits}

@@ -6,20 +6,20 @@ use Rattle.pv_base.specs.declared.Name.{Name}
 use Rattle.pv_ast.specs.declared.PvType.{PvType}
 use Rattle.pv_values.specs.declared.value.Value.{Value}
 use Rattle.pv_values.specs.Typing.{Kind}
-use Rattle.pv_meaning.specs.declared.check.Check.{Check}
-use Rattle.pv_meaning.specs.Core.{Formula, Program}
-use Rattle.pv_meaning.specs.Heaps.{Heap}
-use Rattle.pv_meaning.specs.Meeting.{IsMet}
-use Rattle.pv_meaning.specs.States.{Resource, Folded, amount_of, scene_of}
-use Rattle.pv_meaning.specs.Starts.{field_kind}
-use Rattle.pv_meaning.specs.Settings.{Next}
-use Rattle.pv_meaning.specs.Judging.{exhale_own}
-use Rattle.pv_meaning.specs.Tasks.{Task}
-use Rattle.pv_meaning.specs.Frames.{Frame, at_lengths_of, sight_of, body_scene}
-use Rattle.pv_meaning.specs.Judge.{Judged, Maps}
-use Rattle.typed_programs.specs.Frames as typed
-use Rattle.typed_programs.specs.Frames.{HasType}
-use Rattle.typing_laws.specs.Formulas.{FormulaFits}
+use Rattle.pv_picks.specs.declared.check.Check.{Check}
+use Rattle.pv_picks.specs.Plain.Core.{Formula, Program}
+use Rattle.pv_picks.specs.Formulas.Heaps.{Heap}
+use Rattle.pv_picks.specs.Formulas.Meeting.{IsMet}
+use Rattle.pv_picks.specs.Judge.States.{Resource, Folded, amount_of, scene_of}
+use Rattle.pv_picks.specs.Machine.Starts.{field_kind}
+use Rattle.pv_picks.specs.Judge.Settings.{Next}
+use Rattle.pv_picks.specs.Judge.Judging.{exhale_own}
+use Rattle.pv_picks.specs.Machine.Tasks.{Task}
+use Rattle.pv_picks.specs.Machine.Frames.{Frame, at_lengths_of, sight_of, body_scene}
+use Rattle.pv_picks.specs.Judge.Runs.{Judged, Maps}
+use Rattle.pv_picks.specs.Typing.Frames as typed
+use Rattle.pv_picks.specs.Typing.Frames.{HasType}
+use Rattle.core_trees.specs.Formulas.{FormulaFits}
 use Rattle.account_formulas.specs.Sights.{Lengths, ValuesFit, SceneFits}
 use Rattle.account_formulas.specs.Runs.{truly, RestNeverFails}
 use Rattle.account_formulas.specs.Owning.{Amounts, Owns, HasTrees}

@@ -1,6 +1,6 @@
 -- Worlds that a verified program reaches support the laws of labels.
-use Rattle.typed_programs.proofs.Reached.{reached-fits}
-use Rattle.core_laws.proofs.Stacks.{stacks_fit}
+use Rattle.machine_laws.proofs.Reached.{reached-fits}
+use Rattle.core_names.proofs.Stacks.{stacks_fit}
 use Rattle.account.proofs.Supplying.{heaps_fit}
 use Rattle.account.proofs.Framing.{predicates_taken_in}
 use Rattle.account_accesses.specs.Statements.{ReachedWorldsSupport}

@@ -9,25 +9,25 @@ use Rattle.pv_fraction.specs.Amounts.{whole}
 use Rattle.pv_values.specs.declared.value.Value.{Value}
 use Rattle.pv_values.specs.declared.value.Value.TheVariants as value
 use Rattle.pv_values.specs.Sames.{same_truth}
-use Rattle.pv_meaning.specs.declared.evidence.Pick.{Pick}
-use Rattle.pv_meaning.specs.Core.{Parameter, Program}
-use Rattle.pv_meaning.specs.Values.{Variables, truth_in, with_variable}
-use Rattle.pv_meaning.specs.Heaps.{Heap}
-use Rattle.pv_meaning.specs.Evaluation.{Scene}
-use Rattle.pv_meaning.specs.States as states
-use Rattle.pv_meaning.specs.States.{Resource, Cells, State, amount_of, nothing_held, with_local}
-use Rattle.pv_meaning.specs.Starts.{field_kind}
-use Rattle.pv_meaning.specs.Settings.{Next}
-use Rattle.pv_meaning.specs.Tasks.{Loop, Task, Evaluate, Turn}
-use Rattle.pv_meaning.specs.Frames.{Frame, goes_on, only_now, at_lengths_of, body_scene}
-use Rattle.pv_meaning.specs.Rows.{compute}
-use Rattle.pv_meaning.specs.Judging.{inhale_own, pick_variables, when, blocking, turn_of}
-use Rattle.pv_meaning.specs.Judge.{Judged, Maps}
-use Rattle.machine_laws.specs.Typed.{IsUnused}
-use Rattle.meaning_laws.proofs.Sames.{naturals_same}
-use Rattle.typed_programs.specs.Expressions.{Home, Speech, silent, type_in, IsOf}
-use Rattle.typed_programs.specs.Frames.{HasType, VariablesFit}
-use Rattle.typing_laws.specs.Formulas.{FormulaFits, AreVariables}
+use Rattle.pv_picks.specs.declared.evidence.Pick.{Pick}
+use Rattle.pv_picks.specs.Plain.Core.{Parameter, Program}
+use Rattle.pv_picks.specs.Formulas.Values.{Variables, truth_in, with_variable}
+use Rattle.pv_picks.specs.Formulas.Heaps.{Heap}
+use Rattle.pv_picks.specs.Formulas.Evaluation.{Scene}
+use Rattle.pv_picks.specs.Judge.States as states
+use Rattle.pv_picks.specs.Judge.States.{Resource, Cells, State, amount_of, nothing_held, with_local}
+use Rattle.pv_picks.specs.Machine.Starts.{field_kind}
+use Rattle.pv_picks.specs.Judge.Settings.{Next}
+use Rattle.pv_picks.specs.Machine.Tasks.{Loop, Task, Evaluate, Turn}
+use Rattle.pv_picks.specs.Machine.Frames.{Frame, goes_on, only_now, at_lengths_of, body_scene}
+use Rattle.pv_picks.specs.Judge.Rows.{compute}
+use Rattle.pv_picks.specs.Judge.Judging.{inhale_own, pick_variables, when, blocking, turn_of}
+use Rattle.pv_picks.specs.Judge.Runs.{Judged, Maps}
+use Rattle.pv_picks.specs.Typing.Heaps.{IsUnused}
+use Rattle.pv_picks.proofs.Sames.{naturals_same}
+use Rattle.pv_picks.specs.Typing.Expressions.{Home, Speech, silent, type_in, IsOf}
+use Rattle.pv_picks.specs.Typing.Frames.{HasType, VariablesFit}
+use Rattle.core_trees.specs.Formulas.{FormulaFits, AreVariables}
 use Rattle.account_formulas.specs.Sights.{Contents, ContentsAgree, ValuesFit, SceneFits, value_at}
 use Rattle.account_formulas.specs.Runs.{Taken, truly, all_maps, RestNeverFails, AreSettled, GoesOnTo, with_lengths}
 use Rattle.account_formulas.specs.Owning.{Amounts, Owns, HasTrees}

@@ -10,24 +10,24 @@ use Rattle.pv_values.specs.declared.value.Value.TheVariants as value
 use Rattle.pv_values.specs.declared.value.Location.{Location}
 use Rattle.pv_values.specs.declared.value.Location.TheVariants as location
 use Rattle.pv_values.specs.Changes.{owner_of}
-use Rattle.pv_meaning.specs.declared.check.Check.TheVariants as check
-use Rattle.pv_meaning.specs.Core.{Program}
-use Rattle.pv_meaning.specs.Values.{number_in, reference_in}
-use Rattle.pv_meaning.specs.Heaps.{Heap, written}
-use Rattle.pv_meaning.specs.States.{Resource, InField, InElement, Holding, amount_held, amount_of, holding, plain_cell, same_resource, with_value}
-use Rattle.pv_meaning.specs.Starts.{field_kind, kind_of}
-use Rattle.pv_meaning.specs.Tasks.{Spot, FieldOf, ElementOf, AtWrite, Task, Stand}
-use Rattle.pv_meaning.specs.Frames.{Frame, top, second, settled, location_on, breadth, pops, body_scene}
-use Rattle.pv_meaning.specs.Worlds.{World, label_of_frames, label_of_frame, with_frames, with_heap}
-use Rattle.pv_meaning.specs.Steps.{needs, not_null, write}
-use Rattle.pv_meaning.specs.Judge.{content}
-use Rattle.machine_laws.specs.Typed.{FitsAt, KeepsKinds}
-use Rattle.meaning_laws.proofs.Sames.{resources_same}
-use Rattle.typed_programs.specs.Tasks.{writes_field, writes_element}
-use Rattle.typed_programs.specs.Frames as typed
-use Rattle.typed_programs.specs.Frames.{HasType}
-use Rattle.typed_programs.proofs.Local.{rest-fits, two-fit, drop-one}
-use Rattle.typed_programs.proofs.Labels.{next-fits}
+use Rattle.pv_picks.specs.declared.check.Check.TheVariants as check
+use Rattle.pv_picks.specs.Plain.Core.{Program}
+use Rattle.pv_picks.specs.Formulas.Values.{number_in, reference_in}
+use Rattle.pv_picks.specs.Formulas.Heaps.{Heap, written}
+use Rattle.pv_picks.specs.Judge.States.{Resource, InField, InElement, Holding, amount_held, amount_of, holding, plain_cell, same_resource, with_value}
+use Rattle.pv_picks.specs.Machine.Starts.{field_kind, kind_of}
+use Rattle.pv_picks.specs.Machine.Tasks.{Spot, FieldOf, ElementOf, AtWrite, Task, Stand}
+use Rattle.pv_picks.specs.Machine.Frames.{Frame, top, second, settled, location_on, breadth, pops, body_scene}
+use Rattle.pv_picks.specs.Machine.Worlds.{World, label_of_frames, label_of_frame, with_frames, with_heap}
+use Rattle.pv_picks.specs.Machine.Steps.{needs, not_null, write}
+use Rattle.pv_picks.specs.Judge.Runs.{content}
+use Rattle.pv_picks.specs.Typing.Heaps.{FitsAt, KeepsKinds}
+use Rattle.pv_picks.proofs.Sames.{resources_same}
+use Rattle.pv_picks.specs.Typing.Tasks.{writes_field, writes_element}
+use Rattle.pv_picks.specs.Typing.Frames as typed
+use Rattle.pv_picks.specs.Typing.Frames.{HasType}
+use Rattle.machine_laws.proofs.Local.{rest-fits, two-fit, drop-one}
+use Rattle.machine_laws.proofs.Labels.{next-fits}
 use Rattle.account_formulas.specs.Sights.{Stands}
 use Rattle.account_formulas.specs.Runs.{truly, all_maps, RestNeverFails}
 use Rattle.account_formulas.specs.Owning.{Amounts, IsPlaced, KeepsHeld}

@@ -3,14 +3,14 @@ use Rattle.std.specs.Prelude.{ℕ, List}
 use Rattle.pv_base.specs.declared.Name.{Name}
 use Rattle.pv_base.specs.declared.Span.{Span}
 use Rattle.pv_ast.specs.declared.PvType.{PvType}
-use Rattle.pv_meaning.specs.declared.check.Check.TheVariants as check
-use Rattle.pv_meaning.specs.Core.{Formula, Program}
-use Rattle.pv_meaning.specs.Tasks.{Spot, Step, AtRead, AtWrite, AtLength, AtAssert, AtFold, AtHead, Loop, Task}
-use Rattle.pv_meaning.specs.Frames.{Frame}
-use Rattle.pv_meaning.specs.Worlds.{Mode, World}
-use Rattle.pv_meaning.specs.Steps.{act}
-use Rattle.pv_meaning.specs.Safety.{IsReached, Race}
-use Rattle.typed_programs.specs.Blocks.{ProgramFits}
+use Rattle.pv_picks.specs.declared.check.Check.TheVariants as check
+use Rattle.pv_picks.specs.Plain.Core.{Formula, Program}
+use Rattle.pv_picks.specs.Machine.Tasks.{Spot, Step, AtRead, AtWrite, AtLength, AtAssert, AtFold, AtHead, Loop, Task}
+use Rattle.pv_picks.specs.Machine.Frames.{Frame}
+use Rattle.pv_picks.specs.Machine.Worlds.{Mode, World}
+use Rattle.pv_picks.specs.Machine.Steps.{act}
+use Rattle.pv_picks.specs.Machine.Safety.{IsReached, Race}
+use Rattle.pv_picks.specs.Typing.Blocks.{ProgramFits}
 use Rattle.account_formulas.specs.Growing.{HeapFits}
 use Rattle.account.specs.Verified.{IsVerifiedThroughout}
 use Rattle.account.specs.Accounts.{Account, Kept}

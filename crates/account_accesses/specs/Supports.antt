@@ -1,9 +1,9 @@
 -- What a label's law may build on besides the account: what laws of reached worlds and of verified programs give.
-use Rattle.pv_meaning.specs.Core.{Program}
-use Rattle.pv_meaning.specs.Heaps.{Heap}
-use Rattle.pv_meaning.specs.Worlds.{World}
-use Rattle.typed_programs.specs.Worlds.{WorldFits}
-use Rattle.core_laws.specs.Stacks.{StacksFit}
+use Rattle.pv_picks.specs.Plain.Core.{Program}
+use Rattle.pv_picks.specs.Formulas.Heaps.{Heap}
+use Rattle.pv_picks.specs.Machine.Worlds.{World}
+use Rattle.pv_picks.specs.Typing.Worlds.{WorldFits}
+use Rattle.core_names.specs.Stacks.{StacksFit}
 use Rattle.account_formulas.specs.Growing.{HeapFits}
 use Rattle.account_formulas.specs.Gaining.{PredicatesFit}
 

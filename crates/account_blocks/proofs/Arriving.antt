@@ -7,29 +7,29 @@ use Rattle.pv_base.specs.declared.Span.{Span}
 use Rattle.pv_ast.specs.declared.PvType.TheVariants.{Int}
 use Rattle.pv_values.specs.declared.value.Value.TheVariants as value
 use Rattle.pv_values.specs.Heaps.{same_name}
-use Rattle.pv_meaning.specs.declared.check.Check.TheVariants as check
-use Rattle.pv_meaning.specs.Core.{Barrier, Program, Shared}
-use Rattle.pv_meaning.specs.Heaps.{at_number}
-use Rattle.pv_meaning.specs.Meeting.{AllMet, at, unmet}
-use Rattle.pv_meaning.specs.States.{Resource, State, OfLock, nothing_held}
-use Rattle.pv_meaning.specs.Tasks.{AtArrive, AtLeave, AtClose, Step, Task, Stand}
-use Rattle.pv_meaning.specs.Frames.{Frame, goes_on, settled, after_work, only_now, at_lengths_of, sight_of, contract_scene}
-use Rattle.pv_meaning.specs.Measures.{size_of_tasks}
-use Rattle.pv_meaning.specs.Rows.{Site, exhale_each}
-use Rattle.pv_meaning.specs.Settings.{Next, if_within}
-use Rattle.pv_meaning.specs.Inhaling.{inhale_items}
-use Rattle.pv_meaning.specs.Judging.{finish, choose_turn, turn_of, pick_position, bind_at_site, at_site, inhale_at_site}
-use Rattle.pv_meaning.specs.Judge.{Judged, Maps}
+use Rattle.pv_picks.specs.declared.check.Check.TheVariants as check
+use Rattle.pv_picks.specs.Plain.Core.{Barrier, Program, Shared}
+use Rattle.pv_picks.specs.Formulas.Heaps.{at_number}
+use Rattle.pv_picks.specs.Formulas.Meeting.{AllMet, at, unmet}
+use Rattle.pv_picks.specs.Judge.States.{Resource, State, OfLock, nothing_held}
+use Rattle.pv_picks.specs.Machine.Tasks.{AtArrive, AtLeave, AtClose, Step, Task, Stand}
+use Rattle.pv_picks.specs.Machine.Frames.{Frame, goes_on, settled, after_work, only_now, at_lengths_of, sight_of, contract_scene}
+use Rattle.pv_picks.specs.Machine.Measures.{size_of_tasks}
+use Rattle.pv_picks.specs.Judge.Rows.{Site, exhale_each}
+use Rattle.pv_picks.specs.Judge.Settings.{Next, if_within}
+use Rattle.pv_picks.specs.Judge.Inhaling.{inhale_items}
+use Rattle.pv_picks.specs.Judge.Judging.{finish, choose_turn, turn_of, pick_position, bind_at_site, at_site, inhale_at_site}
+use Rattle.pv_picks.specs.Judge.Runs.{Judged, Maps}
 use Rattle.account_formulas.specs.Runs.{truly, RestNeverFails}
 use Rattle.account_formulas.specs.Giving.{Gave, with_left}
 use Rattle.account_formulas.proofs.Lengths.{never_number, goes_on_same}
 use Rattle.account_formulas.proofs.Alike.{agree_back, agree_then}
 use Rattle.account.specs.Running.{ran}
-use Rattle.pv_meaning.specs.Worlds.{MemberOf, Mode, World, is_held_back, with_frames}
-use Rattle.pv_meaning.specs.Steps.{Result, needs_met, waits_unless, as_member, act_arrive, act, act_frames, act_tasks}
-use Rattle.typed_programs.specs.Expressions.{silent, type_in}
-use Rattle.pv_meaning.specs.Values.{within}
-use Rattle.typing_laws.specs.Formulas.{BarrierFits, SharedFits}
+use Rattle.pv_picks.specs.Machine.Worlds.{MemberOf, Mode, World, is_held_back, with_frames}
+use Rattle.pv_picks.specs.Machine.Steps.{Result, needs_met, waits_unless, as_member, act_arrive, act, act_frames, act_tasks}
+use Rattle.pv_picks.specs.Typing.Expressions.{silent, type_in}
+use Rattle.pv_picks.specs.Formulas.Values.{within}
+use Rattle.core_trees.specs.Formulas.{BarrierFits, SharedFits}
 use Rattle.account_formulas.specs.Good.{IsGood}
 use Rattle.account_formulas.specs.Owning.{Amounts, Owns, KeepsOwning}
 use Rattle.account_formulas.specs.Agreeing.{ScenesAgree}
@@ -38,7 +38,7 @@ use Rattle.account_formulas.specs.Gaining.{PredicatesFit}
 use Rattle.account_formulas.proofs.Basics.{nat_self}
 use Rattle.account_formulas.proofs.Laws.{gives_up, left_fits, owned_is_met, owned_alike, met_alike}
 use Rattle.account.proofs.Goodness.{good_formula}
-use Rattle.meaning_laws.proofs.Sames.{naturals_same}
+use Rattle.pv_picks.proofs.Sames.{naturals_same}
 use Rattle.account.specs.Frames.{Run, all_of, home_in, IsRunOf}
 use Rattle.account.specs.Owners.{carried_by, without_locks}
 use Rattle.account.specs.Blocks.{scene_at, FormsAreAlike, HasArrived}
@@ -49,7 +49,7 @@ use Rattle.account_blocks.proofs.Moving.{thread_with, moved}
 use Rattle.account_blocks.proofs.Sites.{StandsAt, site_scene, site_fits, place_at, same_scenes, at_own, at_an_arrival, goes_behind}
 use Rattle.account_blocks.proofs.Messages.{nothing_fits}
 use Rattle.account_blocks.proofs.Members.{member, Stood, stood, scenes_agree, part_of_all}
-use Rattle.account_blocks.proofs.Locks.{locks_less, goes_on_locked}
+use Rattle.account.proofs.Locks.{locks_less, goes_on_locked}
 use Rattle.account_blocks.proofs.Turns.{never_turn}
 use Rattle.account_blocks.proofs.Staying.{stays_on, number_within}
 

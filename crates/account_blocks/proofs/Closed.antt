@@ -4,13 +4,13 @@ use Rattle.std.specs.Prelude.{nat_eq, ◌+ℤ◌}
 use Rattle.pv_base.specs.declared.Name.{Name}
 use Rattle.pv_base.specs.declared.Span.{Span}
 use Rattle.pv_values.specs.Heaps.{same_name}
-use Rattle.pv_meaning.specs.Core.{Barrier, Message, Program}
-use Rattle.pv_meaning.specs.Heaps.{at_number}
-use Rattle.pv_meaning.specs.States.{Resource, OfLock}
-use Rattle.pv_meaning.specs.Tasks.{AtClose, AtLeave, Task, Stand}
-use Rattle.pv_meaning.specs.Frames.{Frame}
-use Rattle.pv_meaning.specs.Worlds.{MemberOf, Thread, World, member_count, is_member, has_no_frame, has_ended, members_ended, with_frames}
-use Rattle.meaning_laws.proofs.Sames.{naturals_same}
+use Rattle.pv_picks.specs.Plain.Core.{Barrier, Message, Program}
+use Rattle.pv_picks.specs.Formulas.Heaps.{at_number}
+use Rattle.pv_picks.specs.Judge.States.{Resource, OfLock}
+use Rattle.pv_picks.specs.Machine.Tasks.{AtClose, AtLeave, Task, Stand}
+use Rattle.pv_picks.specs.Machine.Frames.{Frame}
+use Rattle.pv_picks.specs.Machine.Worlds.{MemberOf, Thread, World, member_count, is_member, has_no_frame, has_ended, members_ended, with_frames}
+use Rattle.pv_picks.proofs.Sames.{naturals_same}
 use Rattle.account_formulas.specs.Owning.{Amounts, KeepsOwning}
 use Rattle.account_formulas.specs.Still.{IsStill}
 use Rattle.account_formulas.proofs.Basics.{nat_self}
@@ -23,7 +23,7 @@ use Rattle.account.specs.Accounts.{Account}
 use Rattle.account.proofs.Sums.{sums_less}
 use Rattle.account_blocks.proofs.Moving.{same_head}
 use Rattle.account_blocks.proofs.Numbers.{number_of_member, each_one}
-use Rattle.account_blocks.proofs.Bottom.{role_moves, member_moves}
+use Rattle.account.proofs.Bottom.{role_moves, member_moves}
 
 -- the thread of a number, where another one has another first frame
 abbrev pub thread_on : World → ℕ → Frame → List Frame → Bool → ℕ → Thread

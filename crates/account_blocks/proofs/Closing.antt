@@ -5,20 +5,20 @@ use Rattle.std.proofs.lemmas.Option.{none-some}
 use Rattle.pv_base.specs.declared.Name.{Name}
 use Rattle.pv_values.specs.declared.value.Value.TheVariants as value
 use Rattle.pv_fraction.specs.Amounts.{whole}
-use Rattle.pv_meaning.specs.Core.{Formula, Program, Shared}
-use Rattle.pv_meaning.specs.Heaps.{at_number}
-use Rattle.pv_meaning.specs.Meeting.{sum_of_each}
-use Rattle.pv_meaning.specs.States.{Resource, OfLock, scene_of}
-use Rattle.pv_meaning.specs.Tasks.{AtClose, Task, Stand}
-use Rattle.pv_meaning.specs.Frames.{Frame, goes_on, settled, only_now, at_lengths_of, body_scene}
+use Rattle.pv_picks.specs.Plain.Core.{Formula, Program, Shared}
+use Rattle.pv_picks.specs.Formulas.Heaps.{at_number}
+use Rattle.pv_picks.specs.Formulas.Meeting.{sum_of_each}
+use Rattle.pv_picks.specs.Judge.States.{Resource, OfLock, scene_of}
+use Rattle.pv_picks.specs.Machine.Tasks.{AtClose, Task, Stand}
+use Rattle.pv_picks.specs.Machine.Frames.{Frame, goes_on, settled, only_now, at_lengths_of, body_scene}
 use Rattle.account_formulas.specs.Runs.{truly}
 use Rattle.account_formulas.proofs.Alike.{scene_typed}
 use Rattle.account.specs.Running.{ran}
-use Rattle.pv_meaning.specs.Worlds.{Mode, World, OpenBlock, is_held_back, is_member, has_ended, members_ended, with_frames, member_count}
-use Rattle.pv_meaning.specs.Steps.{Result, waits_unless, act, act_frames, act_tasks}
-use Rattle.typed_programs.specs.Expressions.{Home, silent, type_in}
-use Rattle.pv_meaning.specs.Values.{within, width, or_zero}
-use Rattle.typing_laws.specs.Formulas.{in_class}
+use Rattle.pv_picks.specs.Machine.Worlds.{Mode, World, OpenBlock, is_held_back, is_member, has_ended, members_ended, with_frames, member_count}
+use Rattle.pv_picks.specs.Machine.Steps.{Result, waits_unless, act, act_frames, act_tasks}
+use Rattle.pv_picks.specs.Typing.Expressions.{Home, silent, type_in}
+use Rattle.pv_picks.specs.Formulas.Values.{within, width, or_zero}
+use Rattle.core_trees.specs.Formulas.{in_class}
 use Rattle.account_formulas.specs.Good.{IsGood, AreGoodItems}
 use Rattle.account_formulas.specs.Owning.{Amounts, Owns, OwnsItems}
 use Rattle.account_formulas.specs.Agreeing.{ScenesAgree}
@@ -40,7 +40,7 @@ use Rattle.account.proofs.Working.{frame_says, not_closing, not_leaving}
 use Rattle.account.proofs.LocalWork.{settled_goes, below_settled}
 use Rattle.account.proofs.Exchanging.{settled_exchanges}
 use Rattle.account.proofs.Sums.{sum_changed, part_of, at_same, at_other}
-use Rattle.account_blocks.proofs.Together.{each_formula}
+use Rattle.account.proofs.Together.{each_formula}
 use Rattle.account_blocks.proofs.Closed.{closed}
 use Rattle.account_blocks.proofs.Numbers.{shares_up, given_up, none_up, is_member_at, each_one, position_number}
 use Rattle.account_blocks.proofs.Sites.{at_lengths, goes_behind}

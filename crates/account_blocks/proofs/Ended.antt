@@ -2,13 +2,13 @@
 use Rattle.std.proofs.Common.{◌≡◌, ℕ, suc, ◌+◌, ◌≤◌, ◌<◌, ℤ, pos, Bool, true, false, if◌then◌else◌, Some, List, [], ◌∷◌, refl, ap, sym, subst, ◌∙◌, arith}
 use Rattle.std.specs.Prelude.{nat_eq, ◌+ℤ◌}
 use Rattle.pv_base.specs.declared.Name.{Name}
-use Rattle.pv_meaning.specs.Core.{Program}
-use Rattle.pv_meaning.specs.Heaps.{at_number}
-use Rattle.pv_meaning.specs.States.{Resource, OfLock}
-use Rattle.pv_meaning.specs.Tasks.{AtClose, Task, Stand}
-use Rattle.pv_meaning.specs.Frames.{Frame}
-use Rattle.pv_meaning.specs.Worlds.{MemberOf, Thread, World, member_count, has_no_frame, with_frames}
-use Rattle.meaning_laws.proofs.Sames.{naturals_same}
+use Rattle.pv_picks.specs.Plain.Core.{Program}
+use Rattle.pv_picks.specs.Formulas.Heaps.{at_number}
+use Rattle.pv_picks.specs.Judge.States.{Resource, OfLock}
+use Rattle.pv_picks.specs.Machine.Tasks.{AtClose, Task, Stand}
+use Rattle.pv_picks.specs.Machine.Frames.{Frame}
+use Rattle.pv_picks.specs.Machine.Worlds.{MemberOf, Thread, World, member_count, has_no_frame, with_frames}
+use Rattle.pv_picks.proofs.Sames.{naturals_same}
 use Rattle.account_formulas.specs.Owning.{Amounts, KeepsOwning}
 use Rattle.account.specs.Frames.{Run, amounts_of, all_of, AreRunsOf}
 use Rattle.account.specs.Owners.{Owners, carried_by, total, at_thread}

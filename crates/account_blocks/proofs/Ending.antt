@@ -2,22 +2,22 @@
 use Rattle.std.proofs.Common.{◌≡◌, ℕ, ◌≤◌, ◌<◌, ℤ, Bool, true, false, not, Some, None, List, [], ◌∷◌, refl, ap, sym, subst, ◌∙◌, arith}
 use Rattle.std.proofs.lemmas.Option.{none-some}
 use Rattle.pv_ast.specs.declared.PvType.TheVariants.{Int}
-use Rattle.pv_meaning.specs.declared.check.Check.TheVariants as check
-use Rattle.pv_meaning.specs.Core.{Formula, Parameter, Program, Team}
-use Rattle.pv_meaning.specs.Meeting.{AllMet, at, unmet}
-use Rattle.pv_meaning.specs.States.{Resource, scene_of}
-use Rattle.pv_meaning.specs.Frames.{Frame, only_now, at_lengths_of, sight_of, contract_scene}
-use Rattle.pv_meaning.specs.Judging.{finish, exhale_at_site}
+use Rattle.pv_picks.specs.declared.check.Check.TheVariants as check
+use Rattle.pv_picks.specs.Plain.Core.{Formula, Parameter, Program, Team}
+use Rattle.pv_picks.specs.Formulas.Meeting.{AllMet, at, unmet}
+use Rattle.pv_picks.specs.Judge.States.{Resource, scene_of}
+use Rattle.pv_picks.specs.Machine.Frames.{Frame, only_now, at_lengths_of, sight_of, contract_scene}
+use Rattle.pv_picks.specs.Judge.Judging.{finish, exhale_at_site}
 use Rattle.account_formulas.specs.Runs.{truly, RestNeverFails}
 use Rattle.account_formulas.specs.Giving.{Gave}
 use Rattle.account_formulas.proofs.Alike.{agree_at, agree_back, scene_typed}
 use Rattle.account_formulas.proofs.Exhaling.{position_fits}
 use Rattle.account.specs.Running.{ran}
-use Rattle.pv_meaning.specs.Worlds.{MemberOf, Mode, World, is_held_back, with_frames}
-use Rattle.pv_meaning.specs.Steps.{Result, needs_met, waits_unless, act_end, act, act_frames, act_tasks}
-use Rattle.typed_programs.specs.Expressions.{Home, silent, type_in}
-use Rattle.pv_meaning.specs.Values.{within}
-use Rattle.typing_laws.specs.Formulas.{in_class}
+use Rattle.pv_picks.specs.Machine.Worlds.{MemberOf, Mode, World, is_held_back, with_frames}
+use Rattle.pv_picks.specs.Machine.Steps.{Result, needs_met, waits_unless, act_end, act, act_frames, act_tasks}
+use Rattle.pv_picks.specs.Typing.Expressions.{Home, silent, type_in}
+use Rattle.pv_picks.specs.Formulas.Values.{within}
+use Rattle.core_trees.specs.Formulas.{in_class}
 use Rattle.account_formulas.specs.Sights.{SceneFits}
 use Rattle.account_formulas.specs.Good.{IsGood}
 use Rattle.account_formulas.specs.Owning.{Owns, KeepsOwning}
@@ -33,7 +33,7 @@ use Rattle.account.specs.Accounts.{Account, Kept}
 use Rattle.account_blocks.proofs.Ended.{ended}
 use Rattle.account_blocks.proofs.Sites.{site_scene, at_lengths, same_scenes}
 use Rattle.account_blocks.proofs.Members.{member, Opener, opener, Stood, stood, scenes_agree, part_of_all}
-use Rattle.account_blocks.proofs.Locks.{locks_less, goes_on_locked}
+use Rattle.account.proofs.Locks.{locks_less, goes_on_locked}
 use Rattle.account_blocks.proofs.Staying.{number_within}
 
 module _ (p : Program) (w : World) (a : Account p w) (sound : HeapFits p w.heap) (framed : PredicatesFit p w.heap) (i : ℕ)

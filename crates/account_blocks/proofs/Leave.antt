@@ -8,25 +8,25 @@ use Rattle.pv_ast.specs.declared.PvType.{PvType}
 use Rattle.pv_ast.specs.declared.PvType.TheVariants.{Int, Object}
 use Rattle.pv_values.specs.declared.value.Value.TheVariants as value
 use Rattle.pv_fraction.specs.Amounts.{whole}
-use Rattle.pv_meaning.specs.declared.check.Check.TheVariants as check
-use Rattle.pv_meaning.specs.Core.{Barrier, Formula, Parameter, Program, Shared}
-use Rattle.pv_meaning.specs.Meeting.{AllMet, sum_of_each, unmet_shared}
-use Rattle.pv_meaning.specs.States.{Resource, State, nothing_held}
-use Rattle.pv_meaning.specs.Tasks.{AtLeave, Task, Stand}
-use Rattle.pv_meaning.specs.Frames.{Frame, goes_on, only_now, at_lengths_of, sight_of, contract_scene}
-use Rattle.pv_meaning.specs.Rows.{exhale_each}
-use Rattle.pv_meaning.specs.Settings.{Next}
-use Rattle.pv_meaning.specs.Inhaling.{inhale_items}
-use Rattle.pv_meaning.specs.Judging.{finish, bind_at_site}
-use Rattle.pv_meaning.specs.Judge.{Judged, Maps}
+use Rattle.pv_picks.specs.declared.check.Check.TheVariants as check
+use Rattle.pv_picks.specs.Plain.Core.{Barrier, Formula, Parameter, Program, Shared}
+use Rattle.pv_picks.specs.Formulas.Meeting.{AllMet, sum_of_each, unmet_shared}
+use Rattle.pv_picks.specs.Judge.States.{Resource, State, nothing_held}
+use Rattle.pv_picks.specs.Machine.Tasks.{AtLeave, Task, Stand}
+use Rattle.pv_picks.specs.Machine.Frames.{Frame, goes_on, only_now, at_lengths_of, sight_of, contract_scene}
+use Rattle.pv_picks.specs.Judge.Rows.{exhale_each}
+use Rattle.pv_picks.specs.Judge.Settings.{Next}
+use Rattle.pv_picks.specs.Judge.Inhaling.{inhale_items}
+use Rattle.pv_picks.specs.Judge.Judging.{finish, bind_at_site}
+use Rattle.pv_picks.specs.Judge.Runs.{Judged, Maps}
 use Rattle.account_formulas.specs.Runs.{Taken, truly, RestNeverFails, AreSettled}
 use Rattle.account_formulas.specs.Giving.{Gave}
 use Rattle.account_formulas.proofs.Alike.{agree_back, scene_typed}
 use Rattle.account.specs.Running.{ran}
-use Rattle.pv_meaning.specs.Worlds.{MemberOf, World}
-use Rattle.typed_programs.specs.Expressions.{Home, silent, type_in}
-use Rattle.pv_meaning.specs.Values.{within, width}
-use Rattle.typing_laws.specs.Formulas.{BarrierFits, SharedFits}
+use Rattle.pv_picks.specs.Machine.Worlds.{MemberOf, World}
+use Rattle.pv_picks.specs.Typing.Expressions.{Home, silent, type_in}
+use Rattle.pv_picks.specs.Formulas.Values.{within, width}
+use Rattle.core_trees.specs.Formulas.{BarrierFits, SharedFits}
 use Rattle.account_formulas.specs.Sights.{SceneFits}
 use Rattle.account_formulas.specs.Good.{IsGood, AreGoodItems}
 use Rattle.account_formulas.specs.Owning.{Amounts, Owns}
@@ -39,9 +39,9 @@ use Rattle.account_formulas.proofs.Raising.{settled_on}
 use Rattle.account_formulas.specs.Forms.{DealtItems}
 use Rattle.account_formulas.specs.Statements.{NumbersStand}
 use Rattle.account.proofs.Working.{frame_says}
-use Rattle.typed_programs.specs.Frames.{HasType}
+use Rattle.pv_picks.specs.Typing.Frames.{HasType}
 use Rattle.account.proofs.Goodness.{good_formula, good_items}
-use Rattle.meaning_laws.proofs.Sames.{names_same}
+use Rattle.pv_picks.proofs.Sames.{names_same}
 use Rattle.account.specs.Frames.{Run, amounts_of, home_in, standing_in, IsRunOf}
 use Rattle.account.specs.Owners.{Opened}
 use Rattle.account.specs.Blocks.{scene_at, HasArrived}
@@ -50,7 +50,7 @@ use Rattle.account.specs.Scoped.{TasksSay}
 use Rattle.account_blocks.proofs.Sites.{StandsAt, site_scene, site_fits, at_lengths, place_at, at_a_leave, goes_behind}
 use Rattle.account_blocks.proofs.Messages.{nothing_fits}
 use Rattle.account_blocks.proofs.Members.{member, Opener, opener, Stood, stood, scenes_agree}
-use Rattle.account_blocks.proofs.Together.{each_formula, items_of, shared_none}
+use Rattle.account.proofs.Together.{each_formula, items_of, shared_none}
 
 module _ (p : Program) (w : World) (a : Account p w) (sound : HeapFits p w.heap) (framed : PredicatesFit p w.heap) (i : ℕ)
     (inside : i < w.count) (f : Frame) (stack : (w.threads i).frames ≡ f ∷ []) (b : ℕ) (spot : ℤ)

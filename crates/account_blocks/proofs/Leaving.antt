@@ -5,15 +5,15 @@ use Rattle.pv_base.specs.declared.Name.{Name}
 use Rattle.pv_base.specs.declared.Span.{Span}
 use Rattle.pv_values.specs.Heaps.{same_name}
 use Rattle.pv_fraction.specs.Amounts.{whole}
-use Rattle.pv_meaning.specs.declared.check.Check.TheVariants as check
-use Rattle.pv_meaning.specs.Core.{Barrier, Message, Program}
-use Rattle.pv_meaning.specs.Meeting.{AllMet, sum_of_each, unmet_shared}
-use Rattle.pv_meaning.specs.States.{Resource, OfLock}
-use Rattle.pv_meaning.specs.Tasks.{AtLeave, AtClose, Task, Stand}
-use Rattle.pv_meaning.specs.Frames.{Frame, goes_on, settled, only_now, sight_of, contract_scene}
-use Rattle.pv_meaning.specs.Worlds.{MemberOf, Mode, World, Thread, OpenBlock, is_member, is_held_back, member_count, has_no_frame}
-use Rattle.pv_meaning.specs.Steps.{Result, needs_met, waits_unless, as_member, act_leave, all_leave, all_behind, frames_leave, frames_behind, act, act_frames, act_tasks}
-use Rattle.pv_meaning.specs.Values.{within, width, or_zero}
+use Rattle.pv_picks.specs.declared.check.Check.TheVariants as check
+use Rattle.pv_picks.specs.Plain.Core.{Barrier, Message, Program}
+use Rattle.pv_picks.specs.Formulas.Meeting.{AllMet, sum_of_each, unmet_shared}
+use Rattle.pv_picks.specs.Judge.States.{Resource, OfLock}
+use Rattle.pv_picks.specs.Machine.Tasks.{AtLeave, AtClose, Task, Stand}
+use Rattle.pv_picks.specs.Machine.Frames.{Frame, goes_on, settled, only_now, sight_of, contract_scene}
+use Rattle.pv_picks.specs.Machine.Worlds.{MemberOf, Mode, World, Thread, OpenBlock, is_member, is_held_back, member_count, has_no_frame}
+use Rattle.pv_picks.specs.Machine.Steps.{Result, needs_met, waits_unless, as_member, act_leave, all_leave, all_behind, frames_leave, frames_behind, act, act_frames, act_tasks}
+use Rattle.pv_picks.specs.Formulas.Values.{within, width, or_zero}
 use Rattle.account_formulas.specs.Owning.{Amounts, Owns, KeepsOwning}
 use Rattle.account_formulas.specs.Growing.{HeapFits}
 use Rattle.account_formulas.specs.Gaining.{PredicatesFit}
@@ -35,9 +35,9 @@ use Rattle.account_blocks.proofs.Moving.{same_head}
 use Rattle.account_blocks.proofs.Members.{Opener, opener, Stood, stood}
 use Rattle.account.specs.Objects.{AtBottom, RoleFits}
 use Rattle.account_blocks.proofs.Numbers.{shares_up, given_up, taken_up, none_up, is_member_at, number_of_member, number_from, its_number, parts_of_members, each_one, position_number}
-use Rattle.account_blocks.proofs.Bottom.{member_moves}
+use Rattle.account.proofs.Bottom.{member_moves}
 use Rattle.account_blocks.proofs.Staying.{number_within}
-use Rattle.account_blocks.specs.Statements.{LeavesAt}
+use Rattle.account.specs.Members.{LeavesAt}
 use Rattle.account_blocks.proofs.Leave.{Leaves, arrived, takes, met, dealt, parts, no_more}
 
 module _ (p : Program) (w : World) (a : Account p w) (sound : HeapFits p w.heap) (framed : PredicatesFit p w.heap) (i : ℕ)

@@ -3,8 +3,8 @@ use Rattle.std.proofs.Common.{◌≡◌, ◌+◌, ◌≤◌, Bool, true, false, 
 use Rattle.std.proofs.lemmas.Option.{same_Some, none-some}
 use Rattle.pv_base.specs.declared.Name.{Name}
 use Rattle.pv_values.specs.Heaps.{same_name}
-use Rattle.pv_meaning.specs.States.{Resource}
-use Rattle.meaning_laws.proofs.Sames.{names_same}
+use Rattle.pv_picks.specs.Judge.States.{Resource}
+use Rattle.pv_picks.proofs.Sames.{names_same}
 use Rattle.account_formulas.specs.Owning.{Amounts}
 use Rattle.account.specs.Owners.{Mail, carried_by, letter, without_letter}
 

@@ -5,7 +5,6 @@ pub mod Messages
 pub mod Members
 pub mod Letters
 pub mod Onward
-pub mod Locks
 pub mod Recorded
 pub mod Receiving
 pub mod Sending
@@ -14,9 +13,8 @@ pub mod Arriving
 pub mod Ended
 pub mod Ending
 pub mod Numbers
-pub mod Bottom
 pub mod Closed
 pub mod Closing
-pub mod Together
 pub mod Leave
 pub mod Leaving
+pub mod Laws

@@ -4,13 +4,13 @@ use Rattle.std.proofs.lemmas.Option.{none-some}
 use Rattle.pv_ast.specs.declared.PvType.TheVariants.{Int}
 use Rattle.pv_values.specs.declared.value.Value.TheVariants as value
 use Rattle.pv_fraction.specs.Amounts.{whole}
-use Rattle.pv_meaning.specs.Core.{Program}
-use Rattle.pv_meaning.specs.Values.{number_in}
-use Rattle.pv_meaning.specs.States.{Resource}
-use Rattle.pv_meaning.specs.Tasks.{Task}
-use Rattle.pv_meaning.specs.Frames.{Frame}
-use Rattle.pv_meaning.specs.Worlds.{MemberOf, World}
-use Rattle.typed_programs.specs.Expressions.{silent, type_in}
+use Rattle.pv_picks.specs.Plain.Core.{Program}
+use Rattle.pv_picks.specs.Formulas.Values.{number_in}
+use Rattle.pv_picks.specs.Judge.States.{Resource}
+use Rattle.pv_picks.specs.Machine.Tasks.{Task}
+use Rattle.pv_picks.specs.Machine.Frames.{Frame}
+use Rattle.pv_picks.specs.Machine.Worlds.{MemberOf, World}
+use Rattle.pv_picks.specs.Typing.Expressions.{silent, type_in}
 use Rattle.account_formulas.specs.Agreeing.{ScenesAgree}
 use Rattle.account_formulas.proofs.Basics.{nat_self}
 use Rattle.account.specs.Frames.{Run, amounts_of, all_of, AreRunsOf, IsRunOf}

@@ -4,21 +4,21 @@ use Rattle.std.specs.Prelude.{nat_eq, int_le, int_lt, ◌+ℤ◌, ◌-ℤ◌}
 use Rattle.std.proofs.lemmas.Option.{none-some}
 use Rattle.pv_base.specs.declared.Span.{Span}
 use Rattle.pv_fraction.specs.Amounts.{whole}
-use Rattle.pv_meaning.specs.declared.check.Check.TheVariants as check
-use Rattle.pv_meaning.specs.Core.{Message, Program}
-use Rattle.pv_meaning.specs.Values.{number_in}
-use Rattle.pv_meaning.specs.Heaps.{Heap}
-use Rattle.pv_meaning.specs.Meeting.{AllMet, at, unmet}
-use Rattle.pv_meaning.specs.States.{Resource, State, nothing_held}
-use Rattle.pv_meaning.specs.Settings.{Next}
-use Rattle.pv_meaning.specs.Tasks.{AtSend, AtReceive, Task, Stand}
-use Rattle.pv_meaning.specs.Frames.{Frame, goes_on, at_lengths_of, only_now, sight_of, contract_scene}
-use Rattle.pv_meaning.specs.Judging.{finish, blocking, turn_of, at_site, inhale_at_site, exhale_at_site}
-use Rattle.pv_meaning.specs.Judge.{Judged, Maps, pick_turn}
-use Rattle.typed_programs.specs.Expressions.{silent}
-use Rattle.pv_meaning.specs.Steps.{not_null}
-use Rattle.meaning_laws.proofs.Sames.{naturals_same}
-use Rattle.typing_laws.specs.Formulas.{MessageFits}
+use Rattle.pv_picks.specs.declared.check.Check.TheVariants as check
+use Rattle.pv_picks.specs.Plain.Core.{Message, Program}
+use Rattle.pv_picks.specs.Formulas.Values.{number_in}
+use Rattle.pv_picks.specs.Formulas.Heaps.{Heap}
+use Rattle.pv_picks.specs.Formulas.Meeting.{AllMet, at, unmet}
+use Rattle.pv_picks.specs.Judge.States.{Resource, State, nothing_held}
+use Rattle.pv_picks.specs.Judge.Settings.{Next}
+use Rattle.pv_picks.specs.Machine.Tasks.{AtSend, AtReceive, Task, Stand}
+use Rattle.pv_picks.specs.Machine.Frames.{Frame, goes_on, at_lengths_of, only_now, sight_of, contract_scene}
+use Rattle.pv_picks.specs.Judge.Judging.{finish, blocking, turn_of, at_site, inhale_at_site, exhale_at_site}
+use Rattle.pv_picks.specs.Judge.Runs.{Judged, Maps, pick_turn}
+use Rattle.pv_picks.specs.Typing.Expressions.{silent}
+use Rattle.pv_picks.specs.Machine.Steps.{not_null}
+use Rattle.pv_picks.proofs.Sames.{naturals_same}
+use Rattle.core_trees.specs.Formulas.{MessageFits}
 use Rattle.account_formulas.specs.Sights.{SceneFits}
 use Rattle.account_formulas.specs.Runs.{Taken, truly, RestNeverFails}
 use Rattle.account_formulas.specs.Good.{IsGood}

@@ -3,13 +3,13 @@ use Rattle.std.proofs.Common.{◌≡◌, ℕ, suc, ◌+◌, ◌≤◌, ◌<◌, 
 use Rattle.std.specs.Prelude.{nat_eq, ◌-ℤ◌, ◌+ℤ◌}
 use Rattle.pv_base.specs.declared.Name.{Name}
 use Rattle.pv_base.specs.declared.Span.{Span}
-use Rattle.pv_meaning.specs.Core.{Barrier, Program}
-use Rattle.pv_meaning.specs.Heaps.{at_number}
-use Rattle.pv_meaning.specs.States.{Resource, OfLock}
-use Rattle.pv_meaning.specs.Tasks.{AtClose, AtLeave, Task, Stand}
-use Rattle.pv_meaning.specs.Frames.{Frame}
-use Rattle.pv_meaning.specs.Worlds.{MemberOf, OpenBlock, Thread, World, has_no_frame, with_frames}
-use Rattle.meaning_laws.proofs.Sames.{naturals_same}
+use Rattle.pv_picks.specs.Plain.Core.{Barrier, Program}
+use Rattle.pv_picks.specs.Formulas.Heaps.{at_number}
+use Rattle.pv_picks.specs.Judge.States.{Resource, OfLock}
+use Rattle.pv_picks.specs.Machine.Tasks.{AtClose, AtLeave, Task, Stand}
+use Rattle.pv_picks.specs.Machine.Frames.{Frame}
+use Rattle.pv_picks.specs.Machine.Worlds.{MemberOf, OpenBlock, Thread, World, has_no_frame, with_frames}
+use Rattle.pv_picks.proofs.Sames.{naturals_same}
 use Rattle.account_formulas.specs.Owning.{Amounts, KeepsOwning}
 use Rattle.account_formulas.specs.Still.{IsStill}
 use Rattle.account.specs.Frames.{Run, amounts_of, all_of, AreRunsOf, IsRunOf}

@@ -2,11 +2,11 @@
 use Rattle.std.proofs.Common.{◌≡◌, ℕ, zero, suc, ◌+◌, ◌≤◌, ◌<◌, ℤ, pos, Bool, true, false, if◌then◌else◌, refl, ap, sym, subst, ◌∙◌, arith, rules}
 use Rattle.std.specs.Prelude.{negsuc, nat_eq, nat_le, nat_lt, int_le, int_lt, ◌+ℤ◌, ◌-ℤ◌}
 use Rattle.std.proofs.lemmas.Int.{ints}
-use Rattle.pv_meaning.specs.Heaps.{at_number}
-use Rattle.pv_meaning.specs.Meeting.{sum_of_each}
-use Rattle.pv_meaning.specs.Values.{within, width, or_zero}
-use Rattle.pv_meaning.specs.Worlds.{OpenBlock, each_from, is_member, member_count}
-use Rattle.meaning_laws.proofs.Sames.{front, back, naturals_same}
+use Rattle.pv_picks.specs.Formulas.Heaps.{at_number}
+use Rattle.pv_picks.specs.Formulas.Meeting.{sum_of_each}
+use Rattle.pv_picks.specs.Formulas.Values.{within, width, or_zero}
+use Rattle.pv_picks.specs.Machine.Worlds.{OpenBlock, each_from, is_member, member_count}
+use Rattle.pv_picks.proofs.Sames.{front, back, naturals_same}
 use Rattle.account_formulas.proofs.Basics.{nat_self, at_most, is_at_most, both}
 use Rattle.account.specs.Owners.{sum_below}
 use Rattle.account.proofs.Sums.{sum_changed, sum_less, at_same, at_other}

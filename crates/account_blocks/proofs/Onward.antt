@@ -4,12 +4,12 @@ use Rattle.std.specs.Prelude.{nat_eq, ◌-ℤ◌}
 use Rattle.pv_base.specs.declared.Name.{Name}
 use Rattle.pv_values.specs.Heaps.{same_name}
 use Rattle.pv_fraction.specs.Amounts.{whole}
-use Rattle.pv_meaning.specs.Core.{Program}
-use Rattle.pv_meaning.specs.Heaps.{at_number}
-use Rattle.pv_meaning.specs.States.{Resource, OfLock}
-use Rattle.pv_meaning.specs.Tasks.{AtClose, Step, Task, Stand}
-use Rattle.pv_meaning.specs.Frames.{Frame, goes_on, settled}
-use Rattle.pv_meaning.specs.Worlds.{MemberOf, World}
+use Rattle.pv_picks.specs.Plain.Core.{Program}
+use Rattle.pv_picks.specs.Formulas.Heaps.{at_number}
+use Rattle.pv_picks.specs.Judge.States.{Resource, OfLock}
+use Rattle.pv_picks.specs.Machine.Tasks.{AtClose, Step, Task, Stand}
+use Rattle.pv_picks.specs.Machine.Frames.{Frame, goes_on, settled}
+use Rattle.pv_picks.specs.Machine.Worlds.{MemberOf, World}
 use Rattle.account_formulas.specs.Owning.{Amounts}
 use Rattle.account_formulas.specs.Growing.{HeapFits}
 use Rattle.account_formulas.specs.Gaining.{PredicatesFit}
@@ -17,7 +17,7 @@ use Rattle.account_formulas.proofs.Still.{settled_still}
 use Rattle.account.specs.Scoped.{TasksSay}
 use Rattle.account.specs.Frames.{Run, amounts_of, standing_in, IsRunOf}
 use Rattle.account.specs.Owners.{Mail, sum_below, at_thread, lies_at}
-use Rattle.meaning_laws.proofs.Sames.{naturals_same}
+use Rattle.pv_picks.proofs.Sames.{naturals_same}
 use Rattle.account.specs.Messages.{TaskExchanges, TasksExchange, bottom_tasks, IsKnown, ReceivesNone, Lies}
 use Rattle.account.specs.Accounts.{Account}
 use Rattle.account.proofs.Sums.{sum_changed, at_same, at_other}

@@ -8,18 +8,18 @@ use Rattle.pv_ast.specs.declared.PvType.TheVariants.{Int}
 use Rattle.pv_values.specs.declared.value.Value.TheVariants as value
 use Rattle.pv_values.specs.Heaps.{same_name}
 use Rattle.pv_fraction.specs.Amounts.{whole}
-use Rattle.pv_meaning.specs.declared.check.Check.TheVariants as check
-use Rattle.pv_meaning.specs.Core.{Message, Program, Team}
-use Rattle.pv_meaning.specs.Heaps.{at_number}
-use Rattle.pv_meaning.specs.Meeting.{at}
-use Rattle.pv_meaning.specs.States.{Resource, OfLock}
-use Rattle.pv_meaning.specs.Tasks.{AtReceive, Task, Stand}
-use Rattle.pv_meaning.specs.Frames.{Frame, goes_on, settled, only_now}
-use Rattle.pv_meaning.specs.Worlds.{MemberOf, Mode, World, is_held_back, with_frames}
-use Rattle.pv_meaning.specs.Steps.{Result, partner_if, sender_of, needs, waits_unless, as_member, act_receive, act, act_frames, act_tasks}
-use Rattle.typed_programs.specs.Expressions.{silent, type_in}
-use Rattle.pv_meaning.specs.Values.{number_in}
-use Rattle.typing_laws.specs.Formulas.{MessageFits}
+use Rattle.pv_picks.specs.declared.check.Check.TheVariants as check
+use Rattle.pv_picks.specs.Plain.Core.{Message, Program, Team}
+use Rattle.pv_picks.specs.Formulas.Heaps.{at_number}
+use Rattle.pv_picks.specs.Formulas.Meeting.{at}
+use Rattle.pv_picks.specs.Judge.States.{Resource, OfLock}
+use Rattle.pv_picks.specs.Machine.Tasks.{AtReceive, Task, Stand}
+use Rattle.pv_picks.specs.Machine.Frames.{Frame, goes_on, settled, only_now}
+use Rattle.pv_picks.specs.Machine.Worlds.{MemberOf, Mode, World, is_held_back, with_frames}
+use Rattle.pv_picks.specs.Machine.Steps.{Result, partner_if, sender_of, needs, waits_unless, as_member, act_receive, act, act_frames, act_tasks}
+use Rattle.pv_picks.specs.Typing.Expressions.{silent, type_in}
+use Rattle.pv_picks.specs.Formulas.Values.{number_in}
+use Rattle.core_trees.specs.Formulas.{MessageFits}
 use Rattle.account_formulas.specs.Sights.{SceneFits}
 use Rattle.account_formulas.specs.Good.{IsGood}
 use Rattle.account_formulas.specs.Owning.{Amounts, Owns, KeepsHeld}
@@ -29,7 +29,7 @@ use Rattle.account_formulas.specs.Gaining.{PredicatesFit}
 use Rattle.account_formulas.proofs.Basics.{nat_self}
 use Rattle.account_formulas.proofs.Laws.{owned_alike}
 use Rattle.account.proofs.Goodness.{good_formula}
-use Rattle.meaning_laws.proofs.Sames.{naturals_same, names_same}
+use Rattle.pv_picks.proofs.Sames.{naturals_same, names_same}
 use Rattle.account.specs.Frames.{amounts_of, all_of, home_in, standing_in, IsRunOf}
 use Rattle.account.specs.Owners.{Mail, carried_by, letter, without_letter}
 use Rattle.account.specs.Blocks.{scene_at}

@@ -3,11 +3,11 @@ use Rattle.std.proofs.Common.{◌≡◌, ℕ, ◌<◌, ℤ, pos, Bool, true, fal
 use Rattle.std.specs.Prelude.{nat_eq, ◌-ℤ◌}
 use Rattle.pv_base.specs.declared.Name.{Name}
 use Rattle.pv_values.specs.Heaps.{same_name, same_number}
-use Rattle.pv_meaning.specs.Core.{Message, Program}
-use Rattle.pv_meaning.specs.Frames.{Frame}
-use Rattle.pv_meaning.specs.Tasks.{Task}
-use Rattle.pv_meaning.specs.Worlds.{MemberOf, OpenBlock, World, at_message, with_message}
-use Rattle.meaning_laws.proofs.Sames.{front, back, naturals_same, names_same, numbers_same}
+use Rattle.pv_picks.specs.Plain.Core.{Message, Program}
+use Rattle.pv_picks.specs.Machine.Frames.{Frame}
+use Rattle.pv_picks.specs.Machine.Tasks.{Task}
+use Rattle.pv_picks.specs.Machine.Worlds.{MemberOf, OpenBlock, World, at_message, with_message}
+use Rattle.pv_picks.proofs.Sames.{front, back, naturals_same, names_same, numbers_same}
 use Rattle.account.specs.Frames.{Run}
 use Rattle.account.specs.Owners.{Opened}
 use Rattle.account.specs.Objects.{AtBottom}

@@ -6,17 +6,17 @@ use Rattle.pv_base.specs.declared.Name.{Name}
 use Rattle.pv_base.specs.declared.Span.{Span}
 use Rattle.pv_values.specs.Heaps.{same_name}
 use Rattle.pv_fraction.specs.Amounts.{whole}
-use Rattle.pv_meaning.specs.declared.check.Check.TheVariants as check
-use Rattle.pv_meaning.specs.Core.{Message, Program, Team}
-use Rattle.pv_meaning.specs.Heaps.{at_number}
-use Rattle.pv_meaning.specs.States.{Resource, OfLock}
-use Rattle.pv_meaning.specs.Tasks.{AtSend, Task, Stand}
-use Rattle.pv_meaning.specs.Frames.{Frame, goes_on, settled, only_now}
-use Rattle.pv_meaning.specs.Worlds.{MemberOf, Mode, World, is_held_back, with_frames, with_message, member_count, has_no_frame}
-use Rattle.pv_meaning.specs.Steps.{Result, partner_if, receiver_of, needs, needs_met, waits_unless, as_member, act_send, act, act_frames, act_tasks}
-use Rattle.typed_programs.specs.Expressions.{silent}
-use Rattle.pv_meaning.specs.Values.{number_in, width, or_zero}
-use Rattle.typing_laws.specs.Formulas.{MessageFits}
+use Rattle.pv_picks.specs.declared.check.Check.TheVariants as check
+use Rattle.pv_picks.specs.Plain.Core.{Message, Program, Team}
+use Rattle.pv_picks.specs.Formulas.Heaps.{at_number}
+use Rattle.pv_picks.specs.Judge.States.{Resource, OfLock}
+use Rattle.pv_picks.specs.Machine.Tasks.{AtSend, Task, Stand}
+use Rattle.pv_picks.specs.Machine.Frames.{Frame, goes_on, settled, only_now}
+use Rattle.pv_picks.specs.Machine.Worlds.{MemberOf, Mode, World, is_held_back, with_frames, with_message, member_count, has_no_frame}
+use Rattle.pv_picks.specs.Machine.Steps.{Result, partner_if, receiver_of, needs, needs_met, waits_unless, as_member, act_send, act, act_frames, act_tasks}
+use Rattle.pv_picks.specs.Typing.Expressions.{silent}
+use Rattle.pv_picks.specs.Formulas.Values.{number_in, width, or_zero}
+use Rattle.core_trees.specs.Formulas.{MessageFits}
 use Rattle.account_formulas.specs.Good.{IsGood}
 use Rattle.account_formulas.specs.Owning.{Amounts, KeepsOwning}
 use Rattle.account_formulas.specs.Growing.{HeapFits}
@@ -24,7 +24,7 @@ use Rattle.account_formulas.specs.Gaining.{PredicatesFit}
 use Rattle.account_formulas.proofs.Basics.{nat_self}
 use Rattle.account_formulas.proofs.Laws.{owned_alike}
 use Rattle.account.proofs.Goodness.{good_formula}
-use Rattle.meaning_laws.proofs.Sames.{naturals_same, names_same}
+use Rattle.pv_picks.proofs.Sames.{naturals_same, names_same}
 use Rattle.account.specs.Frames.{amounts_of, all_of, home_in, standing_in, IsRunOf}
 use Rattle.account.specs.Owners.{Mail, carried_by, letter, without_locks, at_thread}
 use Rattle.account.specs.Blocks.{scene_at, MemberRuns}
@@ -37,7 +37,7 @@ use Rattle.account_blocks.proofs.Moving.{thread_with, Moves, moved}
 use Rattle.account_blocks.proofs.Sites.{site_scene, at_a_send}
 use Rattle.account_blocks.proofs.Messages.{is_some_distance, Sent, sends, sends_none}
 use Rattle.account_blocks.proofs.Members.{member, Opener, opener, Stood, stood, here, scenes_agree, part_of_all}
-use Rattle.account_blocks.proofs.Locks.{locks_less, goes_on_locked}
+use Rattle.account.proofs.Locks.{locks_less, goes_on_locked}
 use Rattle.account_blocks.proofs.Recorded.{recorded}
 use Rattle.account_blocks.proofs.Onward.{gives_to, still_receives, step_known, done, went}
 

@@ -3,24 +3,24 @@ use Rattle.std.proofs.Common.{◌≡◌, ℕ, ℤ, Bool, true, false, if◌then�
 use Rattle.std.proofs.lemmas.Option.{none-some, same_Some}
 use Rattle.std.specs.Prelude.{nat_eq}
 use Rattle.pv_base.specs.declared.Name.{Name}
-use Rattle.meaning_laws.proofs.Sames.{names_same}
-use Rattle.pv_meaning.specs.Meeting.{at}
+use Rattle.pv_picks.proofs.Sames.{names_same}
+use Rattle.pv_picks.specs.Formulas.Meeting.{at}
 use Rattle.pv_base.specs.declared.Span.{Span}
 use Rattle.pv_ast.specs.declared.PvType.{PvType}
 use Rattle.pv_ast.specs.declared.PvType.TheVariants.{Int, Object}
 use Rattle.pv_values.specs.declared.value.Value.TheVariants as value
-use Rattle.pv_meaning.specs.Core.{Parameter, Program, Barrier, Message}
-use Rattle.pv_meaning.specs.Evaluation.{Scene}
-use Rattle.pv_meaning.specs.Heaps.{Heap}
-use Rattle.pv_meaning.specs.Starts.{field_kind}
-use Rattle.pv_meaning.specs.States.{State, scene_of}
-use Rattle.pv_meaning.specs.Tasks.{Step, AtSend, AtReceive, AtArrive, AtLeave, Task, Stand}
-use Rattle.pv_meaning.specs.Frames.{Frame, goes_on, at_lengths_of, body_scene, contract_scene}
-use Rattle.pv_meaning.specs.Rows.{Site}
-use Rattle.typed_programs.specs.Expressions.{Home, Speech, silent, type_in}
-use Rattle.typed_programs.specs.Tasks.{at_send, at_receive, at_arrive}
-use Rattle.typed_programs.specs.Frames.{HasType}
-use Rattle.typing_laws.specs.Formulas.{BarrierFits, MessageFits}
+use Rattle.pv_picks.specs.Plain.Core.{Parameter, Program, Barrier, Message}
+use Rattle.pv_picks.specs.Formulas.Evaluation.{Scene}
+use Rattle.pv_picks.specs.Formulas.Heaps.{Heap}
+use Rattle.pv_picks.specs.Machine.Starts.{field_kind}
+use Rattle.pv_picks.specs.Judge.States.{State, scene_of}
+use Rattle.pv_picks.specs.Machine.Tasks.{Step, AtSend, AtReceive, AtArrive, AtLeave, Task, Stand}
+use Rattle.pv_picks.specs.Machine.Frames.{Frame, goes_on, at_lengths_of, body_scene, contract_scene}
+use Rattle.pv_picks.specs.Judge.Rows.{Site}
+use Rattle.pv_picks.specs.Typing.Expressions.{Home, Speech, silent, type_in}
+use Rattle.pv_picks.specs.Typing.Tasks.{at_send, at_receive, at_arrive}
+use Rattle.pv_picks.specs.Typing.Frames.{HasType}
+use Rattle.core_trees.specs.Formulas.{BarrierFits, MessageFits}
 use Rattle.account_formulas.specs.Sights.{ValuesFit, SceneFits}
 use Rattle.account_formulas.specs.Runs.{Taken, truly, RestNeverFails, AreSettled, GoesOnTo}
 use Rattle.account_formulas.specs.Owning.{Amounts, HasTrees}

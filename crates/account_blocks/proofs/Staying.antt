@@ -3,15 +3,15 @@ use Rattle.std.proofs.Common.{◌≡◌, ℕ, ℤ, pos, Bool, true, ◌≤◌, �
 use Rattle.std.specs.Prelude.{negsuc, int_le, int_lt, ◌+ℤ◌, ◌-ℤ◌}
 use Rattle.std.proofs.lemmas.Int.{ints}
 use Rattle.pv_fraction.specs.Amounts.{whole}
-use Rattle.pv_meaning.specs.Core.{Formula, Program}
-use Rattle.pv_meaning.specs.Values.{within, width, or_zero}
-use Rattle.pv_meaning.specs.Evaluation.{Scene}
-use Rattle.pv_meaning.specs.Heaps.{Heap}
-use Rattle.pv_meaning.specs.Meeting.{Sight}
-use Rattle.pv_meaning.specs.States.{Resource, State, amount_of}
-use Rattle.pv_meaning.specs.Settings.{Next}
-use Rattle.pv_meaning.specs.Inhaling.{inhale}
-use Rattle.pv_meaning.specs.Judge.{Judged, Maps}
+use Rattle.pv_picks.specs.Plain.Core.{Formula, Program}
+use Rattle.pv_picks.specs.Formulas.Values.{within, width, or_zero}
+use Rattle.pv_picks.specs.Formulas.Evaluation.{Scene}
+use Rattle.pv_picks.specs.Formulas.Heaps.{Heap}
+use Rattle.pv_picks.specs.Formulas.Meeting.{Sight}
+use Rattle.pv_picks.specs.Judge.States.{Resource, State, amount_of}
+use Rattle.pv_picks.specs.Judge.Settings.{Next}
+use Rattle.pv_picks.specs.Judge.Inhaling.{inhale}
+use Rattle.pv_picks.specs.Judge.Runs.{Judged, Maps}
 use Rattle.account_formulas.specs.Sights.{ContentsAgree, SceneFits}
 use Rattle.account_formulas.specs.Runs.{Taken, truly, RestNeverFails, AreSettled}
 use Rattle.account_formulas.specs.Good.{IsGood}

@@ -1,9 +1,9 @@
 -- A pick of a turn leaves the maps of the picks for ranges as they are.
 use Rattle.std.proofs.Common.{◌≡◌, ℕ, zero, suc, true, List, ◌∷◌, refl, ap, sym, subst, ◌∙◌}
 use Rattle.std.specs.Prelude.{nat_lt, if◌then◌else◌}
-use Rattle.pv_meaning.specs.declared.evidence.Pick.{Pick}
-use Rattle.pv_meaning.specs.declared.evidence.Pick.TheVariants.{Turn}
-use Rattle.pv_meaning.specs.Judge.{Blocked, Failed, Judged, Maps, before_others, maps_from, pick_turn}
+use Rattle.pv_picks.specs.declared.evidence.Pick.{Pick}
+use Rattle.pv_picks.specs.declared.evidence.Pick.TheVariants.{Turn}
+use Rattle.pv_picks.specs.Judge.Runs.{Blocked, Failed, Judged, Maps, before_others, maps_from, pick_turn}
 use Rattle.account_formulas.specs.Runs.{Taken, RestNeverFails, all_maps}
 
 turn_passed : (n : ℕ) (maps : Maps) (t : ℕ) (picks : List Pick) → maps_from n maps (Turn t ∷ picks) ≡ maps_from n maps picks

@@ -1,30 +1,17 @@
 -- What the laws of this crate say: of a member that stands in the body of its block, at a step, in an accounted world.
 use Rattle.std.specs.Prelude.{◌≡◌, ℕ, ℤ, true, List, [], ◌∷◌}
 use Rattle.pv_base.specs.declared.Span.{Span}
-use Rattle.pv_meaning.specs.Core.{Barrier, Message, Program}
-use Rattle.pv_meaning.specs.Tasks.{AtArrive, AtClose, AtLeave, AtSend, AtReceive, Task, Stand}
-use Rattle.pv_meaning.specs.Frames.{Frame, goes_on}
-use Rattle.pv_meaning.specs.Worlds.{MemberOf, Mode, World, is_member}
-use Rattle.pv_meaning.specs.Steps.{frames_leave, act}
+use Rattle.pv_picks.specs.Plain.Core.{Barrier, Message, Program}
+use Rattle.pv_picks.specs.Machine.Tasks.{AtArrive, AtClose, AtLeave, AtSend, AtReceive, Task, Stand}
+use Rattle.pv_picks.specs.Machine.Frames.{Frame, goes_on}
+use Rattle.pv_picks.specs.Machine.Worlds.{Mode, World, is_member}
+use Rattle.pv_picks.specs.Machine.Steps.{frames_leave, act}
 use Rattle.account_formulas.specs.Growing.{HeapFits}
 use Rattle.account_formulas.specs.Gaining.{PredicatesFit}
 use Rattle.account.specs.Blocks.{FormsAreAlike}
 use Rattle.account.specs.Messages.{ReceivesNone}
+use Rattle.account.specs.Members.{IsMemberAt, LeavesAt}
 use Rattle.account.specs.Accounts.{Account, Kept}
-
--- a member of a block stands in its own body, with these tasks
-pub record IsMemberAt (w : World) (i b : ℕ) (position : ℤ) (f : Frame) (tasks : List Task) : Type 0 where
-  pub role : (w.threads i).role ≡ MemberOf b position
-  pub stack : (w.threads i).frames ≡ f ∷ []
-  pub stands : f.tasks ≡ tasks
-
--- a member stands where it leaves a barrier, in its own body
-pub record LeavesAt (w : World) (j : ℕ) (barrier : Barrier) : Type 0 where
-  pub frame : Frame
-  pub span : Span
-  pub rest : List Task
-  pub stack : (w.threads j).frames ≡ frame ∷ []
-  pub stands : frame.tasks ≡ Stand (AtLeave barrier span) ∷ rest
 
 -- a message is sent
 abbrev pub SendsKeep : Type 0

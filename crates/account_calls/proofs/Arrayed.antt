@@ -8,22 +8,22 @@ use Rattle.pv_ast.specs.declared.PvType.{PvType}
 use Rattle.pv_ast.specs.declared.PvType.TheVariants.{Int}
 use Rattle.pv_values.specs.declared.value.Value.TheVariants as value
 use Rattle.pv_fraction.specs.Amounts.{whole}
-use Rattle.pv_meaning.specs.Core.{Program}
-use Rattle.pv_meaning.specs.Values.{array_of, default_of, number_in}
-use Rattle.pv_meaning.specs.Heaps.{Heap, with_array}
-use Rattle.pv_meaning.specs.Labels.{Label}
-use Rattle.pv_meaning.specs.Starts.{field_kind}
-use Rattle.pv_meaning.specs.States.{Resource, State, amount_held, amount_of, holding, cell_among, is_among, plain_cell}
-use Rattle.pv_meaning.specs.Tasks.{Task, Stand, AtNewArray, AtClose}
-use Rattle.pv_meaning.specs.Frames.{Frame, top, pops, pushes, settled, body_scene}
-use Rattle.pv_meaning.specs.Worlds.{World, Mode, has_no_frame}
-use Rattle.pv_meaning.specs.Steps.{act_new_array, act_tasks, act}
-use Rattle.machine_laws.specs.Typed.{IsTypedHeap}
+use Rattle.pv_picks.specs.Plain.Core.{Program}
+use Rattle.pv_picks.specs.Formulas.Values.{array_of, default_of, number_in}
+use Rattle.pv_picks.specs.Formulas.Heaps.{Heap, with_array}
+use Rattle.pv_picks.specs.Machine.Labels.{Label}
+use Rattle.pv_picks.specs.Machine.Starts.{field_kind}
+use Rattle.pv_picks.specs.Judge.States.{Resource, State, amount_held, amount_of, holding, cell_among, is_among, plain_cell}
+use Rattle.pv_picks.specs.Machine.Tasks.{Task, Stand, AtNewArray, AtClose}
+use Rattle.pv_picks.specs.Machine.Frames.{Frame, top, pops, pushes, settled, body_scene}
+use Rattle.pv_picks.specs.Machine.Worlds.{World, Mode, has_no_frame}
+use Rattle.pv_picks.specs.Machine.Steps.{act_new_array, act_tasks, act}
+use Rattle.pv_picks.specs.Typing.Heaps.{IsTypedHeap}
 use Rattle.machine_laws.proofs.Typed.{step_typed}
-use Rattle.typed_programs.specs.Expressions.{IsElement}
-use Rattle.typed_programs.specs.Tasks.{makes_array}
-use Rattle.typed_programs.specs.Frames.{ValuesFit}
-use Rattle.typed_programs.proofs.Local.{rest-fits}
+use Rattle.pv_picks.specs.Typing.Expressions.{IsElement}
+use Rattle.pv_picks.specs.Typing.Tasks.{makes_array}
+use Rattle.pv_picks.specs.Typing.Frames.{ValuesFit}
+use Rattle.machine_laws.proofs.Local.{rest-fits}
 use Rattle.account_formulas.specs.Runs.{truly, RestNeverFails}
 use Rattle.account_formulas.specs.Owning.{Amounts, KeepsHeld}
 use Rattle.account_formulas.specs.Growing.{HeapFits}

@@ -8,22 +8,22 @@ use Rattle.pv_ast.specs.declared.PvType.TheVariants.{Object, Null}
 use Rattle.pv_values.specs.declared.value.Value.{Value}
 use Rattle.pv_values.specs.declared.value.Value.TheVariants as value
 use Rattle.pv_fraction.specs.Amounts.{whole}
-use Rattle.pv_meaning.specs.Core as core
-use Rattle.pv_meaning.specs.Core.{Program, Parameter, Method, Block, Statement, Target}
-use Rattle.pv_meaning.specs.Values.{no_variables}
-use Rattle.pv_meaning.specs.Heaps.{Heap}
-use Rattle.pv_meaning.specs.States.{Resource, State, cells_of, no_cells, empty_state, with_result, nothing_held}
-use Rattle.pv_meaning.specs.Frames.{entered, only_now, outer_scene, no_value}
-use Rattle.pv_meaning.specs.Tasks.{Run}
-use Rattle.pv_meaning.specs.Rows.{arguments_of, result_of}
-use Rattle.pv_meaning.specs.Judging.{finish, pick_variables, inhale_own, turn_of}
-use Rattle.pv_meaning.specs.Units.{OfMethod, go_on, through_body, of_method}
-use Rattle.pv_meaning.specs.Judge.{blocked}
-use Rattle.typed_programs.specs.Expressions.{silent}
-use Rattle.typed_programs.specs.Blocks.{types_of, over, gives, MethodFits}
-use Rattle.typed_programs.specs.Frames.{HasType}
-use Rattle.typing_laws.specs.Assigned.{TargetIs, AssignsOnly, BlockAssigns}
-use Rattle.typing_laws.specs.Formulas.{MethodSays, in_class}
+use Rattle.pv_picks.specs.Plain.Core as core
+use Rattle.pv_picks.specs.Plain.Core.{Program, Parameter, Method, Block, Statement, Target}
+use Rattle.pv_picks.specs.Formulas.Values.{no_variables}
+use Rattle.pv_picks.specs.Formulas.Heaps.{Heap}
+use Rattle.pv_picks.specs.Judge.States.{Resource, State, cells_of, no_cells, empty_state, with_result, nothing_held}
+use Rattle.pv_picks.specs.Machine.Frames.{entered, only_now, outer_scene, no_value}
+use Rattle.pv_picks.specs.Machine.Tasks.{Run}
+use Rattle.pv_picks.specs.Judge.Rows.{arguments_of, result_of}
+use Rattle.pv_picks.specs.Judge.Judging.{finish, pick_variables, inhale_own, turn_of}
+use Rattle.pv_picks.specs.Judge.UnitRuns.{OfMethod, go_on, through_body, of_method}
+use Rattle.pv_picks.specs.Judge.Runs.{blocked}
+use Rattle.pv_picks.specs.Typing.Expressions.{silent}
+use Rattle.pv_picks.specs.Typing.Blocks.{types_of, over, gives, MethodFits}
+use Rattle.pv_picks.specs.Typing.Frames.{HasType}
+use Rattle.core_trees.specs.Assigned.{TargetIs, AssignsOnly, BlockAssigns}
+use Rattle.core_trees.specs.Formulas.{MethodSays, in_class}
 use Rattle.account_formulas.specs.Runs.{truly, RestNeverFails, contents_of}
 use Rattle.account_formulas.specs.Owning.{Amounts, Owns}
 use Rattle.account_formulas.specs.Growing.{AllBelow, StateFits, Place, HeapFits}

@@ -8,27 +8,27 @@ use Rattle.pv_ast.specs.declared.PvType.{PvType}
 use Rattle.pv_ast.specs.declared.PvType.TheVariants.{Object}
 use Rattle.pv_values.specs.declared.value.Value.TheVariants as value
 use Rattle.pv_fraction.specs.Amounts.{whole}
-use Rattle.pv_meaning.specs.declared.check.Check.TheVariants as check
-use Rattle.pv_meaning.specs.Core.{Method, Program}
-use Rattle.pv_meaning.specs.Members.{method_named}
-use Rattle.pv_meaning.specs.Heaps.{Heap}
-use Rattle.pv_meaning.specs.States.{Resource, cells_of, no_cells}
-use Rattle.pv_meaning.specs.Settings.{null}
-use Rattle.pv_meaning.specs.Inhaling.{inhale}
-use Rattle.pv_meaning.specs.Exhaling.{exhale}
-use Rattle.pv_meaning.specs.Rows.{bind_for, arguments_of, result_of, call}
-use Rattle.pv_meaning.specs.Tasks.{Task, Stand, AtCall, AtClose, Resume}
-use Rattle.pv_meaning.specs.Frames.{Frame, topmost, object_under, pops, entered, body_scene, only_now, outer_scene}
-use Rattle.pv_meaning.specs.Meeting.{found_met}
-use Rattle.pv_meaning.specs.Worlds.{World, Mode, has_no_frame}
-use Rattle.pv_meaning.specs.Steps.{Result, needs, is_met_on, called, act_call, act_tasks, act}
-use Rattle.pv_meaning.specs.Units.{OfMethod}
-use Rattle.typed_programs.specs.Expressions.{silent, answer_of}
-use Rattle.typed_programs.specs.Blocks.{types_of, over, MethodFits}
-use Rattle.typed_programs.specs.Tasks.{at_call}
-use Rattle.typed_programs.specs.Frames.{HasType, ValuesFit}
-use Rattle.typed_programs.proofs.Local.{past-fits}
-use Rattle.typing_laws.specs.Formulas.{MethodSays, in_class}
+use Rattle.pv_picks.specs.declared.check.Check.TheVariants as check
+use Rattle.pv_picks.specs.Plain.Core.{Method, Program}
+use Rattle.pv_picks.specs.Plain.Members.{method_named}
+use Rattle.pv_picks.specs.Formulas.Heaps.{Heap}
+use Rattle.pv_picks.specs.Judge.States.{Resource, cells_of, no_cells}
+use Rattle.pv_picks.specs.Judge.Settings.{null}
+use Rattle.pv_picks.specs.Judge.Inhaling.{inhale}
+use Rattle.pv_picks.specs.Judge.Exhaling.{exhale}
+use Rattle.pv_picks.specs.Judge.Rows.{bind_for, arguments_of, result_of, call}
+use Rattle.pv_picks.specs.Machine.Tasks.{Task, Stand, AtCall, AtClose, Resume}
+use Rattle.pv_picks.specs.Machine.Frames.{Frame, topmost, object_under, pops, entered, body_scene, only_now, outer_scene}
+use Rattle.pv_picks.specs.Formulas.Meeting.{found_met}
+use Rattle.pv_picks.specs.Machine.Worlds.{World, Mode, has_no_frame}
+use Rattle.pv_picks.specs.Machine.Steps.{Result, needs, is_met_on, called, act_call, act_tasks, act}
+use Rattle.pv_picks.specs.Judge.UnitRuns.{OfMethod}
+use Rattle.pv_picks.specs.Typing.Expressions.{silent, answer_of}
+use Rattle.pv_picks.specs.Typing.Blocks.{types_of, over, MethodFits}
+use Rattle.pv_picks.specs.Typing.Tasks.{at_call}
+use Rattle.pv_picks.specs.Typing.Frames.{HasType, ValuesFit}
+use Rattle.machine_laws.proofs.Local.{past-fits}
+use Rattle.core_trees.specs.Formulas.{MethodSays, in_class}
 use Rattle.account_formulas.specs.Runs.{truly, RestNeverFails, contents_of}
 use Rattle.account_formulas.specs.Good.{IsGood}
 use Rattle.account_formulas.specs.Owning.{Owns}

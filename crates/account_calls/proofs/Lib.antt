@@ -6,4 +6,6 @@ pub mod Returned
 pub mod Starting
 pub mod Making
 pub mod Arrayed
+pub mod Creating
+pub mod Created
 pub mod Laws

@@ -12,21 +12,21 @@ use Rattle.pv_values.specs.declared.value.Location.TheVariants as location
 use Rattle.pv_values.specs.Typing.{Kind, is_number, is_truth}
 use Rattle.pv_values.specs.Changes.{element_of_all}
 use Rattle.pv_fraction.specs.Amounts.{whole}
-use Rattle.pv_meaning.specs.declared.check.Check.TheVariants as check
-use Rattle.pv_meaning.specs.Values.{array_of, default_of, within, same_type}
-use Rattle.pv_meaning.specs.Heaps.{Heap, with_array}
-use Rattle.pv_meaning.specs.Judge.{Judged, Maps, blocked, content}
-use Rattle.pv_meaning.specs.States.{State, Resource, InField, InElement, OfToken, OfLock, Holding, amount_held, amount_of, holding, cell_among, is_among, with_met, with_elements, with_length, plain_cell}
-use Rattle.pv_meaning.specs.Settings.{Next, met_as, pick_value}
-use Rattle.pv_meaning.specs.Rows.{is_known, notice_known, fresh, new_array}
-use Rattle.machine_laws.specs.Typed.{HasKindOf, IsTypedHeap}
+use Rattle.pv_picks.specs.declared.check.Check.TheVariants as check
+use Rattle.pv_picks.specs.Formulas.Values.{array_of, default_of, within, same_type}
+use Rattle.pv_picks.specs.Formulas.Heaps.{Heap, with_array}
+use Rattle.pv_picks.specs.Judge.Runs.{Judged, Maps, blocked, content}
+use Rattle.pv_picks.specs.Judge.States.{State, Resource, InField, InElement, OfToken, OfLock, Holding, amount_held, amount_of, holding, cell_among, is_among, with_met, with_elements, with_length, plain_cell}
+use Rattle.pv_picks.specs.Judge.Settings.{Next, met_as, pick_value}
+use Rattle.pv_picks.specs.Judge.Rows.{is_known, notice_known, fresh, new_array}
+use Rattle.pv_picks.specs.Typing.Heaps.{HasKindOf, IsTypedHeap}
 use Rattle.machine_laws.proofs.Typed.{after-keeps}
-use Rattle.meaning_laws.proofs.Sames.{naturals_same}
-use Rattle.pv_meaning.specs.Core.{Program}
-use Rattle.pv_meaning.specs.Labels.{Label}
-use Rattle.pv_meaning.specs.Starts.{field_kind, kind_of}
-use Rattle.typed_programs.specs.Expressions.{IsElement}
-use Rattle.typed_programs.specs.Frames.{HasType}
+use Rattle.pv_picks.proofs.Sames.{naturals_same}
+use Rattle.pv_picks.specs.Plain.Core.{Program}
+use Rattle.pv_picks.specs.Machine.Labels.{Label}
+use Rattle.pv_picks.specs.Machine.Starts.{field_kind, kind_of}
+use Rattle.pv_picks.specs.Typing.Expressions.{IsElement}
+use Rattle.pv_picks.specs.Typing.Frames.{HasType}
 use Rattle.account_formulas.specs.Runs.{Taken, truly, RestNeverFails, all_maps}
 use Rattle.account_formulas.specs.Growing.{AllBelow, IsHeld, StateFits, HeapFits}
 use Rattle.account_formulas.proofs.Basics.{nat_self, among_index}
@@ -128,7 +128,7 @@ makes taken type element length span next s count below never =
         go (pos n) true e k = (n, refl, k)
         go (negsuc n) true e k = absurd (cc e)
 
-below_more : (a b : ℕ) → a ≤ b → (xs : List (PvType × ℕ)) → AllBelow a xs → AllBelow b xs
+pub below_more : (a b : ℕ) → a ≤ b → (xs : List (PvType × ℕ)) → AllBelow a xs → AllBelow b xs
 below_more a b l [] h = tt
 below_more a b l (x ∷ xs) h = (let k = h.0 in omega (arith, l, k), below_more a b l xs h.1)
 

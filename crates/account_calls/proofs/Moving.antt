@@ -9,16 +9,16 @@ use Rattle.pv_ast.specs.declared.PvType.TheVariants.{Int}
 use Rattle.pv_ast.specs.declared.Token.TheVariants as token
 use Rattle.pv_fraction.specs.Amounts.{whole}
 use Rattle.pv_values.specs.Heaps.{same_name}
-use Rattle.pv_meaning.specs.Core.{Formula, Parameter, Method, Barrier, Message, Program}
-use Rattle.pv_meaning.specs.Members.{run_of, invariant_of}
-use Rattle.pv_meaning.specs.Values.{at_position}
-use Rattle.pv_meaning.specs.Heaps.{Heap, at_number}
-use Rattle.pv_meaning.specs.States.{Resource, OfToken, OfLock}
-use Rattle.pv_meaning.specs.Tasks.{AtClose, AtLeave, Task, Stand}
-use Rattle.pv_meaning.specs.Frames.{Frame, outer_scene}
-use Rattle.pv_meaning.specs.Worlds.{Role, Entry, RunOf, MemberOf, OpenBlock, Thread, ThreadState, World, has_no_frame, with_frames, with_heap}
-use Rattle.meaning_laws.proofs.Sames.{naturals_same}
-use Rattle.typed_programs.specs.Expressions.{silent}
+use Rattle.pv_picks.specs.Plain.Core.{Formula, Parameter, Method, Barrier, Message, Program}
+use Rattle.pv_picks.specs.Plain.Members.{run_of, invariant_of}
+use Rattle.pv_picks.specs.Formulas.Values.{at_position}
+use Rattle.pv_picks.specs.Formulas.Heaps.{Heap, at_number}
+use Rattle.pv_picks.specs.Judge.States.{Resource, OfToken, OfLock}
+use Rattle.pv_picks.specs.Machine.Tasks.{AtClose, AtLeave, Task, Stand}
+use Rattle.pv_picks.specs.Machine.Frames.{Frame, outer_scene}
+use Rattle.pv_picks.specs.Machine.Worlds.{Role, Entry, RunOf, MemberOf, OpenBlock, Thread, ThreadState, World, has_no_frame, with_frames, with_heap}
+use Rattle.pv_picks.proofs.Sames.{naturals_same}
+use Rattle.pv_picks.specs.Typing.Expressions.{silent}
 use Rattle.account_formulas.specs.Owning.{Amounts, IsPlaced, KeepsHeld, KeepsOwning}
 use Rattle.account_formulas.proofs.Basics.{nat_self, at_most, is_at_most}
 use Rattle.account.specs.Scoped.{Standing, TasksSay}

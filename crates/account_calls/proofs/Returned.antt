@@ -3,14 +3,14 @@ use Rattle.std.proofs.Common.{◌≡◌, ℕ, suc, ◌≤◌, ◌<◌, List, [],
 use Rattle.std.specs.Prelude.{drop}
 use Rattle.std.proofs.lemmas.Option.{none-some}
 use Rattle.pv_fraction.specs.Amounts.{whole}
-use Rattle.pv_meaning.specs.declared.check.Check.TheVariants as check
-use Rattle.pv_meaning.specs.Core.{Message, Program}
-use Rattle.pv_meaning.specs.States.{Resource}
-use Rattle.pv_meaning.specs.Tasks.{Task, AtClose, Stand}
-use Rattle.pv_meaning.specs.Frames.{Frame, sight_of, contract_scene, pushes, settled}
-use Rattle.pv_meaning.specs.Meeting.{unmet}
-use Rattle.pv_meaning.specs.Worlds.{World, Role, Entry, RunOf, MemberOf, Mode, has_no_frame, with_frames}
-use Rattle.pv_meaning.specs.Steps.{Result, needs_met, returned, ended, act_end, act_tasks, act}
+use Rattle.pv_picks.specs.declared.check.Check.TheVariants as check
+use Rattle.pv_picks.specs.Plain.Core.{Message, Program}
+use Rattle.pv_picks.specs.Judge.States.{Resource}
+use Rattle.pv_picks.specs.Machine.Tasks.{Task, AtClose, Stand}
+use Rattle.pv_picks.specs.Machine.Frames.{Frame, sight_of, contract_scene, pushes, settled}
+use Rattle.pv_picks.specs.Formulas.Meeting.{unmet}
+use Rattle.pv_picks.specs.Machine.Worlds.{World, Role, Entry, RunOf, MemberOf, Mode, has_no_frame, with_frames}
+use Rattle.pv_picks.specs.Machine.Steps.{Result, needs_met, returned, ended, act_end, act_tasks, act}
 use Rattle.account_formulas.specs.Growing.{HeapFits}
 use Rattle.account_formulas.specs.Gaining.{PredicatesFit}
 use Rattle.account.specs.Frames as account

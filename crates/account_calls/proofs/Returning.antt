@@ -6,19 +6,19 @@ use Rattle.pv_ast.specs.declared.PvType.TheVariants.{Null}
 use Rattle.pv_values.specs.declared.value.Value.{Value}
 use Rattle.pv_values.specs.declared.value.Value.TheVariants as value
 use Rattle.pv_fraction.specs.Amounts.{whole}
-use Rattle.pv_meaning.specs.Core.{Program}
-use Rattle.pv_meaning.specs.Heaps.{Heap}
-use Rattle.pv_meaning.specs.States.{Resource, State, Cells}
-use Rattle.pv_meaning.specs.Settings.{Next, null}
-use Rattle.pv_meaning.specs.Inhaling.{inhale}
-use Rattle.pv_meaning.specs.Rows.{bind_for, arguments_of, result_of}
-use Rattle.pv_meaning.specs.Judging.{finish}
-use Rattle.pv_meaning.specs.Judge.{Judged, Maps}
-use Rattle.pv_meaning.specs.Tasks.{Task}
-use Rattle.pv_meaning.specs.Frames.{Frame, at_lengths_of, contract_scene, pushes}
-use Rattle.typed_programs.specs.Expressions.{answer_of}
-use Rattle.typed_programs.specs.Frames.{HasType}
-use Rattle.typing_laws.specs.Formulas.{ResultIsDeclared, in_class}
+use Rattle.pv_picks.specs.Plain.Core.{Program}
+use Rattle.pv_picks.specs.Formulas.Heaps.{Heap}
+use Rattle.pv_picks.specs.Judge.States.{Resource, State, Cells}
+use Rattle.pv_picks.specs.Judge.Settings.{Next, null}
+use Rattle.pv_picks.specs.Judge.Inhaling.{inhale}
+use Rattle.pv_picks.specs.Judge.Rows.{bind_for, arguments_of, result_of}
+use Rattle.pv_picks.specs.Judge.Judging.{finish}
+use Rattle.pv_picks.specs.Judge.Runs.{Judged, Maps}
+use Rattle.pv_picks.specs.Machine.Tasks.{Task}
+use Rattle.pv_picks.specs.Machine.Frames.{Frame, at_lengths_of, contract_scene, pushes}
+use Rattle.pv_picks.specs.Typing.Expressions.{answer_of}
+use Rattle.pv_picks.specs.Typing.Frames.{HasType}
+use Rattle.core_trees.specs.Formulas.{ResultIsDeclared, in_class}
 use Rattle.account_formulas.specs.Sights.{Contents}
 use Rattle.account_formulas.specs.Runs.{Taken, truly, RestNeverFails, AreSettled}
 use Rattle.account_formulas.specs.Owning.{Owns}

@@ -13,25 +13,25 @@ use Rattle.pv_values.specs.declared.value.Location.{Location}
 use Rattle.pv_values.specs.declared.value.Location.TheVariants as location
 use Rattle.pv_values.specs.Heaps.{Things}
 use Rattle.pv_values.specs.Typing.{is_number, is_truth}
-use Rattle.pv_meaning.specs.Core.{Parameter, Program}
-use Rattle.pv_meaning.specs.Values.{within}
-use Rattle.pv_meaning.specs.Heaps.{Heap, heap_of, at_number}
-use Rattle.pv_meaning.specs.Meeting.{units_in}
-use Rattle.pv_meaning.specs.States.{Resource, InField, InElement, OfToken, OfLock}
-use Rattle.pv_meaning.specs.Tasks.{AtClose, Task, Stand}
-use Rattle.pv_meaning.specs.Frames.{Frame, only_now, outer_scene}
-use Rattle.pv_meaning.specs.Starts.{kind_of, field_kind, AreArguments, Start, IsStart, frame_of_start, first_world, no_thread, true_formula}
-use Rattle.pv_meaning.specs.Worlds.{Entry, MemberOf, Thread, has_no_frame}
-use Rattle.pv_meaning.specs.Safety.{IsReached}
-use Rattle.machine_laws.specs.Typed.{HoldsOnly, IsTypedHeap}
+use Rattle.pv_picks.specs.Plain.Core.{Parameter, Program}
+use Rattle.pv_picks.specs.Formulas.Values.{within}
+use Rattle.pv_picks.specs.Formulas.Heaps.{Heap, heap_of, at_number}
+use Rattle.pv_picks.specs.Formulas.Meeting.{units_in}
+use Rattle.pv_picks.specs.Judge.States.{Resource, InField, InElement, OfToken, OfLock}
+use Rattle.pv_picks.specs.Machine.Tasks.{AtClose, Task, Stand}
+use Rattle.pv_picks.specs.Machine.Frames.{Frame, only_now, outer_scene}
+use Rattle.pv_picks.specs.Machine.Starts.{kind_of, field_kind, AreArguments, Start, IsStart, frame_of_start, first_world, no_thread, true_formula}
+use Rattle.pv_picks.specs.Machine.Worlds.{Entry, MemberOf, Thread, has_no_frame}
+use Rattle.pv_picks.specs.Machine.Safety.{IsReached}
+use Rattle.pv_picks.specs.Typing.Heaps.{HoldsOnly, IsTypedHeap}
 use Rattle.machine_laws.specs.Lengths.{HasItsElements, is_index}
 use Rattle.machine_laws.proofs.Lengths.{reached-elements}
-use Rattle.meaning_laws.proofs.Sames.{naturals_same, names_same}
-use Rattle.typed_programs.specs.Expressions.{silent}
-use Rattle.typed_programs.specs.Blocks.{types_of, over}
-use Rattle.typed_programs.specs.Frames.{HasType}
-use Rattle.typed_programs.proofs.Reached.{kind_there, object_there, reached-fits}
-use Rattle.typing_laws.specs.Formulas.{in_class}
+use Rattle.pv_picks.proofs.Sames.{naturals_same, names_same}
+use Rattle.pv_picks.specs.Typing.Expressions.{silent}
+use Rattle.pv_picks.specs.Typing.Blocks.{types_of, over}
+use Rattle.pv_picks.specs.Typing.Frames.{HasType}
+use Rattle.machine_laws.proofs.Reached.{kind_there, object_there, reached-fits}
+use Rattle.core_trees.specs.Formulas.{in_class}
 use Rattle.account_formulas.specs.Growing.{HeapFits}
 use Rattle.account_formulas.specs.Gaining.{PredicatesFit, AreTyped}
 use Rattle.account_formulas.specs.Owning.{Amounts, IsPlaced, Owns}

@@ -2,17 +2,17 @@
 use Rattle.std.specs.Prelude.{ℕ, Some, List, [], ◌∷◌}
 use Rattle.pv_base.specs.declared.Name.{Name}
 use Rattle.pv_values.specs.declared.value.Value.{Value}
-use Rattle.pv_meaning.specs.declared.check.Check.TheVariants as check
-use Rattle.pv_meaning.specs.Core.{Method}
-use Rattle.pv_meaning.specs.Values.{Variables}
-use Rattle.pv_meaning.specs.Heaps.{Heap}
-use Rattle.pv_meaning.specs.Rows.{arguments_of}
-use Rattle.pv_meaning.specs.Units.{of_method}
-use Rattle.pv_meaning.specs.Tasks.{Run}
-use Rattle.pv_meaning.specs.Frames.{Frame, no_value, kept}
-use Rattle.typed_programs.specs.Expressions.{answer_of}
-use Rattle.typed_programs.specs.Blocks.{over}
-use Rattle.typing_laws.specs.Formulas.{midway}
+use Rattle.pv_picks.specs.declared.check.Check.TheVariants as check
+use Rattle.pv_picks.specs.Plain.Core.{Method}
+use Rattle.pv_picks.specs.Formulas.Values.{Variables}
+use Rattle.pv_picks.specs.Formulas.Heaps.{Heap}
+use Rattle.pv_picks.specs.Judge.Rows.{arguments_of}
+use Rattle.pv_picks.specs.Judge.UnitRuns.{of_method}
+use Rattle.pv_picks.specs.Machine.Tasks.{Run}
+use Rattle.pv_picks.specs.Machine.Frames.{Frame, no_value, kept}
+use Rattle.pv_picks.specs.Typing.Expressions.{answer_of}
+use Rattle.pv_picks.specs.Typing.Blocks.{over}
+use Rattle.core_trees.specs.Formulas.{midway}
 use Rattle.account.specs.Running.{Body}
 use Rattle.account.specs.Frames.{Called}
 

@@ -3,11 +3,11 @@ use Rattle.std.specs.Prelude.{◌≡◌, ℕ, List, [], ◌∷◌}
 use Rattle.pv_base.specs.declared.Name.{Name}
 use Rattle.pv_base.specs.declared.Span.{Span}
 use Rattle.pv_ast.specs.declared.PvType.{PvType}
-use Rattle.pv_meaning.specs.Core.{Program}
-use Rattle.pv_meaning.specs.Tasks.{AtCall, AtNewArray, Task, Stand}
-use Rattle.pv_meaning.specs.Frames.{Frame}
-use Rattle.pv_meaning.specs.Worlds.{Role, Entry}
-use Rattle.pv_meaning.specs.Starts.{Start, IsStart, first_world}
+use Rattle.pv_picks.specs.Plain.Core.{Program}
+use Rattle.pv_picks.specs.Machine.Tasks.{AtCall, AtNewObject, AtNewArray, Task, Stand}
+use Rattle.pv_picks.specs.Machine.Frames.{Frame}
+use Rattle.pv_picks.specs.Machine.Worlds.{Role, Entry}
+use Rattle.pv_picks.specs.Machine.Starts.{Start, IsStart, first_world}
 use Rattle.account.specs.Accounts.{Account}
 use Rattle.account.specs.Labels.{KeepsTheAccount}
 use Rattle.account.specs.Verified.{IsVerifiedThroughout}
@@ -34,6 +34,12 @@ pub record IsAtEntryEnd (f : Frame) (below : List Frame) (role : Role) : Type 0 
   pub alone : below ≡ []
   pub entry : role ≡ Entry
 
+-- at a new object
+pub record IsAtNewObject (f : Frame) (below : List Frame) (role : Role) : Type 0 where
+  pub class : Name
+  pub rest : List Task
+  pub tasks : f.tasks ≡ Stand (AtNewObject class) ∷ rest
+
 -- at a new array
 pub record IsAtNewArray (f : Frame) (below : List Frame) (role : Role) : Type 0 where
   pub type : PvType
@@ -49,6 +55,9 @@ ReturnsKeep = KeepsTheAccount IsAtReturn
 
 abbrev pub EntryEndsKeep : Type 0
 EntryEndsKeep = KeepsTheAccount IsAtEntryEnd
+
+abbrev pub NewObjectsKeep : Type 0
+NewObjectsKeep = KeepsTheAccount IsAtNewObject
 
 abbrev pub NewArraysKeep : Type 0
 NewArraysKeep = KeepsTheAccount IsAtNewArray

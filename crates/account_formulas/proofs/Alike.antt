@@ -8,19 +8,19 @@ use Rattle.pv_ast.specs.declared.PvType.{PvType}
 use Rattle.pv_ast.specs.declared.PvType.TheVariants.{Int, Truth, Object}
 use Rattle.pv_values.specs.declared.value.Value.{Value}
 use Rattle.pv_values.specs.declared.value.Value.TheVariants as value
-use Rattle.pv_meaning.specs.Core.{Expression, Constant, This, Result, Variable, Field, Element, Length, Not, Compute, Compare, Equal, And, Or, Implies, Old, Parameter, Cut, Formula, Fact, FieldPermission, ElementPermission, Holds, Instance, Star, When, Each, Items, NoItems, Join, Item, Elements, Repeated, Committed, Guarded, Fixed}
-use Rattle.pv_meaning.specs.Values.{number_in, truth_in, reference_in, array_of}
-use Rattle.pv_meaning.specs.Evaluation.{Scene, Reader, evaluate, evaluate_all}
-use Rattle.pv_meaning.specs.Heaps.{Heap}
-use Rattle.pv_meaning.specs.Meeting.{Sight, at, heap_reader, guard_term}
-use Rattle.pv_meaning.specs.States.{InField, InElement}
-use Rattle.pv_meaning.specs.Frames.{outer_scene}
-use Rattle.pv_meaning.specs.Repetitions.{Range, cut_by}
-use Rattle.typed_programs.specs.Expressions.{Home, Speech, type_in, Says, AllSay}
+use Rattle.pv_picks.specs.Plain.Core.{Expression, Constant, This, Result, Variable, Field, Element, Length, Not, Compute, Compare, Equal, And, Or, Implies, Old, Parameter, Cut, Formula, Fact, FieldPermission, ElementPermission, Holds, Instance, Star, When, Each, Items, NoItems, Join, Item, Elements, Repeated, Committed, Guarded, Fixed}
+use Rattle.pv_picks.specs.Formulas.Values.{number_in, truth_in, reference_in, array_of}
+use Rattle.pv_picks.specs.Formulas.Evaluation.{Scene, Reader, evaluate, evaluate_all}
+use Rattle.pv_picks.specs.Formulas.Heaps.{Heap}
+use Rattle.pv_picks.specs.Formulas.Meeting.{Sight, at, heap_reader, guard_term}
+use Rattle.pv_picks.specs.Judge.States.{InField, InElement}
+use Rattle.pv_picks.specs.Machine.Frames.{outer_scene}
+use Rattle.pv_picks.specs.Judge.Repetitions.{Range, cut_by}
+use Rattle.pv_picks.specs.Typing.Expressions.{Home, Speech, type_in, Says, AllSay}
 use Rattle.account_formulas.specs.Sights.{value_at, values_at}
 use Rattle.account_formulas.specs.Agreeing.{ScenesAgree}
 use Rattle.account_formulas.specs.Sights.{SceneFits}
-use Rattle.typed_programs.specs.Frames.{HasType}
+use Rattle.pv_picks.specs.Typing.Frames.{HasType}
 use Rattle.account_formulas.specs.Good.{IsGood, AreGoodItems, IsGoodItem, AreGoodCuts, type_of_cut}
 use Rattle.account_formulas.specs.Owning
 use Rattle.account_formulas.specs.Owning.{Amounts, Owns, OwnsItems, OwnsItem, CutsTo}

@@ -11,22 +11,22 @@ use Rattle.pv_values.specs.declared.value.Value.TheVariants as value
 use Rattle.pv_values.specs.declared.value.Location.{Location}
 use Rattle.pv_values.specs.declared.value.Location.TheVariants as location
 use Rattle.pv_values.specs.Heaps.{same_number, same_location}
-use Rattle.pv_meaning.specs.Core.{Cut, Expression, Formula, Fact, FieldPermission, ElementPermission, Holds, Instance, Star, When, Each, Items, NoItems, Join, Item, Elements, Repeated, Committed, Guarded, Fixed, Parameter}
-use Rattle.pv_meaning.specs.Values.{number_in, truth_in, reference_in, equality, array_of, within, width, is_empty}
-use Rattle.pv_meaning.specs.Heaps.{Heap}
-use Rattle.pv_meaning.specs.Evaluation.{Scene}
-use Rattle.pv_meaning.specs.Meeting.{Finding, AllMet, FirstUnmet, Sight, or_stop, at, value_or, unless, first_of, at_each, passes, guard_term, behind, unmet, unmet_items, unmet_item, units_at, sum_of_each, units_in, units_in_items, units_in_item}
-use Rattle.pv_meaning.specs.Repetitions.{Range, range_of, cut_by}
-use Rattle.pv_meaning.specs.States.{Resource, InField, InElement, OfToken, OfLock}
-use Rattle.pv_meaning.specs.Starts.{field_kind, is_plain, are_plain, is_plain_item}
-use Rattle.pv_meaning.specs.Frames.{only_now}
-use Rattle.machine_laws.specs.Typed.{IsTypedHeap}
-use Rattle.typed_programs.specs.Expressions.{Home, Speech, type_in, IsElement, Says}
-use Rattle.typed_programs.specs.Frames.{HasType}
+use Rattle.pv_picks.specs.Plain.Core.{Cut, Expression, Formula, Fact, FieldPermission, ElementPermission, Holds, Instance, Star, When, Each, Items, NoItems, Join, Item, Elements, Repeated, Committed, Guarded, Fixed, Parameter}
+use Rattle.pv_picks.specs.Formulas.Values.{number_in, truth_in, reference_in, equality, array_of, within, width, is_empty}
+use Rattle.pv_picks.specs.Formulas.Heaps.{Heap}
+use Rattle.pv_picks.specs.Formulas.Evaluation.{Scene}
+use Rattle.pv_picks.specs.Formulas.Meeting.{Finding, AllMet, FirstUnmet, Sight, or_stop, at, value_or, unless, first_of, at_each, passes, guard_term, behind, unmet, unmet_items, unmet_item, units_at, sum_of_each, units_in, units_in_items, units_in_item}
+use Rattle.pv_picks.specs.Judge.Repetitions.{Range, range_of, cut_by}
+use Rattle.pv_picks.specs.Judge.States.{Resource, InField, InElement, OfToken, OfLock}
+use Rattle.pv_picks.specs.Machine.Starts.{field_kind, is_plain, are_plain, is_plain_item}
+use Rattle.pv_picks.specs.Machine.Frames.{only_now}
+use Rattle.pv_picks.specs.Typing.Heaps.{IsTypedHeap}
+use Rattle.pv_picks.specs.Typing.Expressions.{Home, Speech, type_in, IsElement, Says}
+use Rattle.pv_picks.specs.Typing.Frames.{HasType}
 use Rattle.account_formulas.specs.Sights.{value_at, ValuesFit, SceneFits}
 use Rattle.account_formulas.specs.Good.{IsGood, AreGoodItems, IsGoodItem, AreGoodCuts, type_of_cut}
 use Rattle.account_formulas.specs.Owning.{Amounts, IsPlaced, Owns, Owns.fact, Owns.field, Owns.element, Owns.star, Owns.when_on, Owns.when_off, Owns.each, OwnsItems, OwnsItems.no_items, OwnsItems.joined, OwnsItem, OwnsItem.elements, OwnsItem.repeated, OwnsItem.cut_off, OwnsItem.cut, OwnsItem.fixed, OwnsItem.beside, CutsTo}
-use Rattle.meaning_laws.proofs.Sames.{front, back, numbers_same}
+use Rattle.pv_picks.proofs.Sames.{front, back, numbers_same}
 use Rattle.account_formulas.proofs.Basics.{both, not_false, nat_self, number_self, first_within, in_width, above}
 use Rattle.account_formulas.proofs.Valuing.{value_then, value_through}
 use Rattle.account_formulas.proofs.TypedReads.{element_typed}

@@ -8,11 +8,11 @@ use Rattle.pv_ast.specs.declared.PvType.TheVariants as type
 use Rattle.pv_ast.specs.declared.Token.{Token}
 use Rattle.pv_ast.specs.declared.Token.TheVariants as token
 use Rattle.pv_values.specs.Heaps.{same_name, same_number}
-use Rattle.pv_meaning.specs.Values.{same_type, within, or_zero, width, is_empty}
-use Rattle.pv_meaning.specs.States.{Resource, InField, InElement, OfToken, OfLock, same_token, same_resource, at_resource, is_among}
-use Rattle.pv_meaning.specs.Permissions.{at_all}
+use Rattle.pv_picks.specs.Formulas.Values.{same_type, within, or_zero, width, is_empty}
+use Rattle.pv_picks.specs.Judge.States.{Resource, InField, InElement, OfToken, OfLock, same_token, same_resource, at_resource, is_among}
+use Rattle.pv_picks.specs.Judge.Permissions.{at_all}
 use Rattle.account_formulas.specs.Owning.{Amounts}
-use Rattle.meaning_laws.proofs.Sames.{numbers_same, resources_same, front, back, types_same, naturals_same}
+use Rattle.pv_picks.proofs.Sames.{numbers_same, resources_same, front, back, types_same, naturals_same}
 
 pub nat_self : (n : ℕ) → nat_eq n n ≡ true
 nat_self n = search (rules)

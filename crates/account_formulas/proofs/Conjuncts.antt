@@ -13,21 +13,21 @@ use Rattle.pv_values.specs.declared.value.Value.TheVariants as value
 use Rattle.pv_values.specs.declared.value.Location.TheVariants as location
 use Rattle.pv_values.specs.Heaps.{same_name}
 use Rattle.pv_fraction.specs.Amounts.{whole}
-use Rattle.pv_meaning.specs.declared.check.Check.TheVariants as check
-use Rattle.pv_meaning.specs.Core.{Expression, Fact, FieldPermission, ElementPermission, Holds, Program}
-use Rattle.pv_meaning.specs.Values.{number_in, truth_in, reference_in, array_of, within}
-use Rattle.pv_meaning.specs.Heaps.{Heap}
-use Rattle.pv_meaning.specs.Evaluation.{Scene}
-use Rattle.pv_meaning.specs.Meeting.{Sight}
-use Rattle.pv_meaning.specs.Starts.{field_kind, kind_of}
-use Rattle.pv_meaning.specs.States.{Resource, InField, InElement, OfToken, State, cells_of, same_resource, with_committed}
-use Rattle.pv_meaning.specs.Settings.{Next}
-use Rattle.pv_meaning.specs.Permissions.{gain, gain_element, add_whole, add_token}
-use Rattle.pv_meaning.specs.Inhaling.{value_now, inhale}
-use Rattle.pv_meaning.specs.Judge.{Judged, Maps}
-use Rattle.typed_programs.specs.Expressions.{IsElement, Says}
-use Rattle.typed_programs.specs.Frames.{HasType}
-use Rattle.meaning_laws.proofs.Sames.{resources_same, naturals_same}
+use Rattle.pv_picks.specs.declared.check.Check.TheVariants as check
+use Rattle.pv_picks.specs.Plain.Core.{Expression, Fact, FieldPermission, ElementPermission, Holds, Program}
+use Rattle.pv_picks.specs.Formulas.Values.{number_in, truth_in, reference_in, array_of, within}
+use Rattle.pv_picks.specs.Formulas.Heaps.{Heap}
+use Rattle.pv_picks.specs.Formulas.Evaluation.{Scene}
+use Rattle.pv_picks.specs.Formulas.Meeting.{Sight}
+use Rattle.pv_picks.specs.Machine.Starts.{field_kind, kind_of}
+use Rattle.pv_picks.specs.Judge.States.{Resource, InField, InElement, OfToken, State, cells_of, same_resource, with_committed}
+use Rattle.pv_picks.specs.Judge.Settings.{Next}
+use Rattle.pv_picks.specs.Judge.Permissions.{gain, gain_element, add_whole, add_token}
+use Rattle.pv_picks.specs.Judge.Inhaling.{value_now, inhale}
+use Rattle.pv_picks.specs.Judge.Runs.{Judged, Maps}
+use Rattle.pv_picks.specs.Typing.Expressions.{IsElement, Says}
+use Rattle.pv_picks.specs.Typing.Frames.{HasType}
+use Rattle.pv_picks.proofs.Sames.{resources_same, naturals_same}
 use Rattle.account_formulas.specs.Sights.{Lengths, LengthsAgree, Sees, SceneFits, value_at}
 use Rattle.account_formulas.specs.Runs.{Taken, truly, RestNeverFails, contents_of, with_lengths}
 use Rattle.account_formulas.specs.Good.{IsGood}

@@ -8,15 +8,15 @@ use Rattle.pv_base.specs.declared.Span.{Span}
 use Rattle.pv_ast.specs.declared.PvType.{PvType}
 use Rattle.pv_values.specs.declared.value.Value.{Value}
 use Rattle.pv_values.specs.Heaps.{same_number}
-use Rattle.pv_meaning.specs.Core.{Cut, Below, UpTo, Above, From, Provided, Expression, Formula, Items, NoItems, Join, Item, Elements, Repeated, Committed, Guarded, Fixed, Program}
-use Rattle.pv_meaning.specs.Values.{number_in, truth_in, reference_in, within, is_empty, width}
-use Rattle.pv_meaning.specs.Evaluation.{Scene}
-use Rattle.pv_meaning.specs.Meeting.{Sight, at, passes, guard_term, sum_of_each}
-use Rattle.pv_meaning.specs.Repetitions.{Range, range_of, cut_by}
-use Rattle.pv_meaning.specs.States.{Resource, InField, InElement, OfToken, OfLock, same_resource}
+use Rattle.pv_picks.specs.Plain.Core.{Cut, Below, UpTo, Above, From, Provided, Expression, Formula, Items, NoItems, Join, Item, Elements, Repeated, Committed, Guarded, Fixed, Program}
+use Rattle.pv_picks.specs.Formulas.Values.{number_in, truth_in, reference_in, within, is_empty, width}
+use Rattle.pv_picks.specs.Formulas.Evaluation.{Scene}
+use Rattle.pv_picks.specs.Formulas.Meeting.{Sight, at, passes, guard_term, sum_of_each}
+use Rattle.pv_picks.specs.Judge.Repetitions.{Range, range_of, cut_by}
+use Rattle.pv_picks.specs.Judge.States.{Resource, InField, InElement, OfToken, OfLock, same_resource}
 use Rattle.account_formulas.specs.Sights.{value_at}
 use Rattle.account_formulas.specs.Owning.{Amounts, IsPlaced, Owns, Owns.fact, Owns.field, Owns.element, Owns.holds, Owns.known, Owns.folded, Owns.star, Owns.when_on, Owns.when_off, Owns.each, OwnsItems, OwnsItems.no_items, OwnsItems.joined, OwnsItem, OwnsItem.nothing, OwnsItem.elements, OwnsItem.repeated, OwnsItem.committed, OwnsItem.cut_off, OwnsItem.cut, OwnsItem.fixed, OwnsItem.beside, CutsTo}
-use Rattle.meaning_laws.proofs.Sames.{front, back, numbers_same, resources_same}
+use Rattle.pv_picks.proofs.Sames.{front, back, numbers_same, resources_same}
 use Rattle.account_formulas.specs.Forms.{DealtItems}
 use Rattle.account_formulas.proofs.Basics.{both, not_false, number_self, first_within, only, only_self}
 use Rattle.account_formulas.proofs.Meeting.{cut_within, empty_no, shifted_within}

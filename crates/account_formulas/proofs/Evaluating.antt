@@ -7,18 +7,18 @@ use Rattle.pv_ast.specs.declared.PvType.{PvType}
 use Rattle.pv_ast.specs.declared.PvType.TheVariants.{Int, Truth, Object}
 use Rattle.pv_values.specs.declared.value.Value.{Value}
 use Rattle.pv_values.specs.declared.value.Value.TheVariants as value
-use Rattle.pv_meaning.specs.declared.evidence.Pick.{Pick}
-use Rattle.pv_meaning.specs.Core.{Manner, Plain, Tabled, Expression, Constant, This, Result, Variable, Field, Element, Length, Not, Compute, Compare, Equal, And, Or, Implies, Old, Parameter}
-use Rattle.pv_meaning.specs.Values.{number_in, truth_in, reference_in, array_of, arithmetic, comparison, equality}
-use Rattle.pv_meaning.specs.Heaps.{Heap}
-use Rattle.pv_meaning.specs.Evaluation.{Scene, evaluate, evaluate_all}
-use Rattle.pv_meaning.specs.Meeting.{Sight, or_stop}
-use Rattle.pv_meaning.specs.Starts.{field_kind, kind_of}
-use Rattle.pv_meaning.specs.States.{Resource, InField, InElement, Cell, Cells, State}
-use Rattle.pv_meaning.specs.Settings.{Next, formula_reader, or_missing, look_at_length, operate}
-use Rattle.pv_meaning.specs.Judge.{Judged, Maps, content}
-use Rattle.typed_programs.specs.Expressions.{Home, Speech, Says, AllSay}
-use Rattle.typed_programs.specs.Frames.{HasType}
+use Rattle.pv_picks.specs.declared.evidence.Pick.{Pick}
+use Rattle.pv_picks.specs.Plain.Core.{Manner, Plain, Tabled, Expression, Constant, This, Result, Variable, Field, Element, Length, Not, Compute, Compare, Equal, And, Or, Implies, Old, Parameter}
+use Rattle.pv_picks.specs.Formulas.Values.{number_in, truth_in, reference_in, array_of, arithmetic, comparison, equality}
+use Rattle.pv_picks.specs.Formulas.Heaps.{Heap}
+use Rattle.pv_picks.specs.Formulas.Evaluation.{Scene, evaluate, evaluate_all}
+use Rattle.pv_picks.specs.Formulas.Meeting.{Sight, or_stop}
+use Rattle.pv_picks.specs.Machine.Starts.{field_kind, kind_of}
+use Rattle.pv_picks.specs.Judge.States.{Resource, InField, InElement, Cell, Cells, State}
+use Rattle.pv_picks.specs.Judge.Settings.{Next, formula_reader, or_missing, look_at_length, operate}
+use Rattle.pv_picks.specs.Judge.Runs.{Judged, Maps, content}
+use Rattle.pv_picks.specs.Typing.Expressions.{Home, Speech, Says, AllSay}
+use Rattle.pv_picks.specs.Typing.Frames.{HasType}
 use Rattle.account_formulas.specs.Sights.{Lengths, Contents, value_at, values_at, LengthsAgree, Sees, SceneFits}
 use Rattle.account_formulas.specs.Runs.{Taken, all_maps, truly, RestNeverFails, AreSettled, with_lengths}
 use Rattle.account_formulas.specs.Gaining.{AreTyped}

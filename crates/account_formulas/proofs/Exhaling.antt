@@ -11,26 +11,26 @@ use Rattle.pv_ast.specs.declared.Token.TheVariants as token
 use Rattle.pv_values.specs.declared.value.Value.{Value}
 use Rattle.pv_values.specs.declared.value.Value.TheVariants as value
 use Rattle.pv_fraction.specs.Amounts.{whole}
-use Rattle.pv_meaning.specs.declared.check.Check.{Check}
-use Rattle.pv_meaning.specs.declared.check.Check.TheVariants as check
-use Rattle.pv_meaning.specs.Core.{Expression, Formula, Fact, FieldPermission, ElementPermission, Holds, Instance, Star, When, Each, Items, NoItems, Join, Item, Elements, Repeated, Committed, Guarded, Fixed, Cut, Parameter, Predicate, Program}
-use Rattle.pv_meaning.specs.Members.{predicate_named}
-use Rattle.pv_meaning.specs.Values.{number_in, truth_in, reference_in, array_of, within, is_empty}
-use Rattle.pv_meaning.specs.Heaps.{Heap}
-use Rattle.pv_meaning.specs.Evaluation.{Scene}
-use Rattle.pv_meaning.specs.Meeting.{Sight, at}
-use Rattle.pv_meaning.specs.Starts.{field_kind}
-use Rattle.pv_meaning.specs.Frames.{only_now, outer_scene}
-use Rattle.pv_meaning.specs.States.{Resource, InField, InElement, OfToken, Folded, Cell, Cells, Holding, State, amount_held, cell_held, holding, same_resource, same_folded, is_among, at_resource, or_kept, without_instance}
-use Rattle.pv_meaning.specs.Settings.{Next, no_frame, if_within}
-use Rattle.pv_meaning.specs.Permissions.{give, give_range, has_each, or_short, take_token}
-use Rattle.pv_meaning.specs.Repetitions.{Range, range_of, shifted, looks_of, arrays_read, notice_parts}
-use Rattle.pv_meaning.specs.Exhaling.{Giving, span_or, fails, holds_or_fails, value_from, from_at, exhale_repeated, exhale, exhale_items, exhale_item}
-use Rattle.pv_meaning.specs.Judge.{Judged, Maps}
-use Rattle.typed_programs.specs.Frames.{HasType}
-use Rattle.typed_programs.specs.Expressions.{Home, Speech, type_in}
-use Rattle.typed_programs.specs.Blocks.{types_of}
-use Rattle.meaning_laws.proofs.Sames.{resources_same}
+use Rattle.pv_picks.specs.declared.check.Check.{Check}
+use Rattle.pv_picks.specs.declared.check.Check.TheVariants as check
+use Rattle.pv_picks.specs.Plain.Core.{Expression, Formula, Fact, FieldPermission, ElementPermission, Holds, Instance, Star, When, Each, Items, NoItems, Join, Item, Elements, Repeated, Committed, Guarded, Fixed, Cut, Parameter, Predicate, Program}
+use Rattle.pv_picks.specs.Plain.Members.{predicate_named}
+use Rattle.pv_picks.specs.Formulas.Values.{number_in, truth_in, reference_in, array_of, within, is_empty}
+use Rattle.pv_picks.specs.Formulas.Heaps.{Heap}
+use Rattle.pv_picks.specs.Formulas.Evaluation.{Scene}
+use Rattle.pv_picks.specs.Formulas.Meeting.{Sight, at}
+use Rattle.pv_picks.specs.Machine.Starts.{field_kind}
+use Rattle.pv_picks.specs.Machine.Frames.{only_now, outer_scene}
+use Rattle.pv_picks.specs.Judge.States.{Resource, InField, InElement, OfToken, Folded, Cell, Cells, Holding, State, amount_held, cell_held, holding, same_resource, same_folded, is_among, at_resource, or_kept, without_instance}
+use Rattle.pv_picks.specs.Judge.Settings.{Next, no_frame, if_within}
+use Rattle.pv_picks.specs.Judge.Permissions.{give, give_range, has_each, or_short, take_token}
+use Rattle.pv_picks.specs.Judge.Repetitions.{Range, range_of, shifted, looks_of, arrays_read, notice_parts}
+use Rattle.pv_picks.specs.Judge.Exhaling.{Giving, span_or, fails, holds_or_fails, value_from, from_at, exhale_repeated, exhale, exhale_items, exhale_item}
+use Rattle.pv_picks.specs.Judge.Runs.{Judged, Maps}
+use Rattle.pv_picks.specs.Typing.Frames.{HasType}
+use Rattle.pv_picks.specs.Typing.Expressions.{Home, Speech, type_in}
+use Rattle.pv_picks.specs.Typing.Blocks.{types_of}
+use Rattle.pv_picks.proofs.Sames.{resources_same}
 use Rattle.account_formulas.specs.Sights.{Lengths, Contents, LengthsAgree, Sees, ValuesFit, SceneFits, value_at, values_at}
 use Rattle.account_formulas.specs.Runs.{Taken, all_maps, truly, RestNeverFails, AreSettled}
 use Rattle.account_formulas.specs.Giving.{Holdings, amounts_in, with_left, Leaves, Gave}

@@ -13,25 +13,25 @@ use Rattle.pv_ast.specs.declared.Token.TheVariants as token
 use Rattle.pv_values.specs.declared.value.Value.{Value}
 use Rattle.pv_values.specs.declared.value.Value.TheVariants as value
 use Rattle.pv_fraction.specs.Amounts.{whole}
-use Rattle.pv_meaning.specs.declared.check.Check.TheVariants as check
-use Rattle.pv_meaning.specs.declared.evidence.Pick.{Pick}
-use Rattle.pv_meaning.specs.Core.{Cut, Expression, Formula, Fact, FieldPermission, ElementPermission, Holds, Instance, Star, When, Each, Items, NoItems, Join, Item, Elements, Repeated, Committed, Guarded, Fixed, Predicate, Program}
-use Rattle.pv_meaning.specs.Members.{predicate_named}
-use Rattle.pv_meaning.specs.Values.{number_in, truth_in, reference_in, array_of, within, is_empty, width}
-use Rattle.pv_meaning.specs.Heaps.{Heap}
-use Rattle.pv_meaning.specs.Evaluation.{Scene, evaluate}
-use Rattle.pv_meaning.specs.Meeting.{Sight, at}
-use Rattle.pv_meaning.specs.Frames.{only_now, outer_scene}
-use Rattle.pv_meaning.specs.States.{Resource, InElement, Folded, Holding, State, cells_of, amount_of, amount_held, no_cells, is_among, with_instances}
-use Rattle.pv_meaning.specs.Settings.{Setting, Next, Known, no_frame, if_within}
-use Rattle.pv_meaning.specs.Permissions.{gain_range, add_token}
-use Rattle.pv_meaning.specs.Repetitions.{unless_empty, cut_by, Range, range_of, bind_at, shifted, looks_of, notice_parts, test_reader, test_at, test_from}
-use Rattle.pv_meaning.specs.Inhaling.{known_of, inhale_at_mark, come_to_know, inhale_repeated, value_now, if_true, inhale, inhale_items, inhale_item}
-use Rattle.pv_meaning.specs.Judging.{finish}
-use Rattle.pv_meaning.specs.Judge.{Judged, Maps, content, judging_tests}
-use Rattle.typed_programs.specs.Expressions.{silent, type_in}
-use Rattle.typed_programs.specs.Blocks.{types_of, over}
-use Rattle.typed_programs.specs.Frames.{HasType}
+use Rattle.pv_picks.specs.declared.check.Check.TheVariants as check
+use Rattle.pv_picks.specs.declared.evidence.Pick.{Pick}
+use Rattle.pv_picks.specs.Plain.Core.{Cut, Expression, Formula, Fact, FieldPermission, ElementPermission, Holds, Instance, Star, When, Each, Items, NoItems, Join, Item, Elements, Repeated, Committed, Guarded, Fixed, Predicate, Program}
+use Rattle.pv_picks.specs.Plain.Members.{predicate_named}
+use Rattle.pv_picks.specs.Formulas.Values.{number_in, truth_in, reference_in, array_of, within, is_empty, width}
+use Rattle.pv_picks.specs.Formulas.Heaps.{Heap}
+use Rattle.pv_picks.specs.Formulas.Evaluation.{Scene, evaluate}
+use Rattle.pv_picks.specs.Formulas.Meeting.{Sight, at}
+use Rattle.pv_picks.specs.Machine.Frames.{only_now, outer_scene}
+use Rattle.pv_picks.specs.Judge.States.{Resource, InElement, Folded, Holding, State, cells_of, amount_of, amount_held, no_cells, is_among, with_instances}
+use Rattle.pv_picks.specs.Judge.Settings.{Setting, Next, Known, no_frame, if_within}
+use Rattle.pv_picks.specs.Judge.Permissions.{gain_range, add_token}
+use Rattle.pv_picks.specs.Judge.Repetitions.{unless_empty, cut_by, Range, range_of, bind_at, shifted, looks_of, notice_parts, test_reader, test_at, test_from}
+use Rattle.pv_picks.specs.Judge.Inhaling.{known_of, inhale_at_mark, come_to_know, inhale_repeated, value_now, if_true, inhale, inhale_items, inhale_item}
+use Rattle.pv_picks.specs.Judge.Judging.{finish}
+use Rattle.pv_picks.specs.Judge.Runs.{Judged, Maps, content, judging_tests}
+use Rattle.pv_picks.specs.Typing.Expressions.{silent, type_in}
+use Rattle.pv_picks.specs.Typing.Blocks.{types_of, over}
+use Rattle.pv_picks.specs.Typing.Frames.{HasType}
 use Rattle.account_formulas.specs.Sights.{Lengths, LengthsAgree, Sees, SceneFits, value_at, values_at}
 use Rattle.account_formulas.specs.Runs.{Taken, all_maps, truly, RestNeverFails, contents_of, with_lengths}
 use Rattle.account_formulas.specs.Good.{IsGood, AreGoodItems, IsGoodItem}

@@ -6,13 +6,13 @@ use Rattle.pv_base.specs.declared.Name.{Name}
 use Rattle.pv_ast.specs.declared.PvType.{PvType}
 use Rattle.pv_values.specs.declared.value.Value.{Value}
 use Rattle.pv_values.specs.declared.value.Location.TheVariants as location
-use Rattle.pv_meaning.specs.Core.{Expression}
-use Rattle.pv_meaning.specs.Values.{arithmetic}
-use Rattle.pv_meaning.specs.Heaps.{Heap}
-use Rattle.pv_meaning.specs.Evaluation.{Scene, Reader, evaluate}
-use Rattle.pv_meaning.specs.Meeting.{Sight, or_stop, heap_reader}
-use Rattle.pv_meaning.specs.States.{InField, InElement}
-use Rattle.meaning_laws.proofs.Readers.{ReadersRelated, evaluate_related}
+use Rattle.pv_picks.specs.Plain.Core.{Expression}
+use Rattle.pv_picks.specs.Formulas.Values.{arithmetic}
+use Rattle.pv_picks.specs.Formulas.Heaps.{Heap}
+use Rattle.pv_picks.specs.Formulas.Evaluation.{Scene, Reader, evaluate}
+use Rattle.pv_picks.specs.Formulas.Meeting.{Sight, or_stop, heap_reader}
+use Rattle.pv_picks.specs.Judge.States.{InField, InElement}
+use Rattle.pv_picks.proofs.Readers.{ReadersRelated, evaluate_related}
 use Rattle.account_formulas.specs.Sights.{Contents, ContentsAgree, Sees, value_at}
 use Rattle.account_formulas.proofs.Valuing.{Goes, option_goes}
 

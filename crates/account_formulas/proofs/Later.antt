@@ -1,13 +1,13 @@
 -- What is owned stays owned where the amounts are kept: for a formula that can be taken in where nothing is held.
 use Rattle.std.proofs.Common.{◌≡◌, ℕ, ℤ, Bool, ◌≤◌, Some, [], sym, subst, arith}
 use Rattle.pv_fraction.specs.Amounts.{whole}
-use Rattle.pv_meaning.specs.Core.{Formula, Program}
-use Rattle.pv_meaning.specs.Evaluation.{Scene}
-use Rattle.pv_meaning.specs.Heaps.{Heap}
-use Rattle.pv_meaning.specs.Meeting.{Sight}
-use Rattle.pv_meaning.specs.States.{Resource, State, amount_of}
-use Rattle.pv_meaning.specs.Inhaling.{inhale}
-use Rattle.pv_meaning.specs.Judging.{finish}
+use Rattle.pv_picks.specs.Plain.Core.{Formula, Program}
+use Rattle.pv_picks.specs.Formulas.Evaluation.{Scene}
+use Rattle.pv_picks.specs.Formulas.Heaps.{Heap}
+use Rattle.pv_picks.specs.Formulas.Meeting.{Sight}
+use Rattle.pv_picks.specs.Judge.States.{Resource, State, amount_of}
+use Rattle.pv_picks.specs.Judge.Inhaling.{inhale}
+use Rattle.pv_picks.specs.Judge.Judging.{finish}
 use Rattle.account_formulas.specs.Sights.{ContentsAgree, SceneFits}
 use Rattle.account_formulas.specs.Runs.{Taken, truly, RestNeverFails, AreSettled}
 use Rattle.account_formulas.specs.Good.{IsGood}

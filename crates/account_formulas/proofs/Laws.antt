@@ -1,7 +1,7 @@
 -- The laws of this crate, as they are stated.
 use Rattle.std.proofs.Common.{None, [], sym}
-use Rattle.pv_meaning.specs.States.{cells_of}
-use Rattle.pv_meaning.specs.Judge.{whole_run}
+use Rattle.pv_picks.specs.Judge.States.{cells_of}
+use Rattle.pv_picks.specs.Judge.Runs.{whole_run}
 use Rattle.account_formulas.specs.Runs.{contents_of}
 use Rattle.account_formulas.specs.Statements.{NeverFailsTruly, UnitNeverFails, ExhaleGives, LeftFits, InhaleGains, OwnedStays, OwnedIsMet, OwnedAlike, MetAlike, ItemsDealt, ItemsGathered, OwnsAsItems, OwnsAsFormula, ValuesAreTyped, NumbersAre, LocalWorkIsStill, TypedHeapFits, MetIsOwned}
 use Rattle.account_formulas.proofs.Asking.{holding_now, met_owns}

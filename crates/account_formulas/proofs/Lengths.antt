@@ -5,16 +5,16 @@ use Rattle.std.specs.Prelude.{nat_eq, int_le, ◌+ℤ◌}
 use Rattle.std.proofs.lemmas.Int.{ints}
 use Rattle.std.proofs.lemmas.Option.{same_Some}
 use Rattle.pv_ast.specs.declared.PvType.{PvType}
-use Rattle.pv_meaning.specs.declared.evidence.Pick.{Pick}
-use Rattle.pv_meaning.specs.declared.evidence.Pick.TheVariants.{Number, Steps}
-use Rattle.pv_meaning.specs.declared.evidence.StepPair.{StepPair}
-use Rattle.pv_meaning.specs.Core.{Operation, Plus, Minus, Times}
-use Rattle.pv_meaning.specs.Values.{arithmetic, same_type}
-use Rattle.pv_meaning.specs.Heaps.{Heap}
-use Rattle.pv_meaning.specs.States.{State}
-use Rattle.pv_meaning.specs.Settings.{Next, known_or_picked, look_at_length}
-use Rattle.pv_meaning.specs.Judge.{Failed, Judged, Maps, before_others, maps_from, step_value, pick_number, pick_steps, value_of_operation}
-use Rattle.meaning_laws.proofs.Sames.{naturals_same}
+use Rattle.pv_picks.specs.declared.evidence.Pick.{Pick}
+use Rattle.pv_picks.specs.declared.evidence.Pick.TheVariants.{Number, Steps}
+use Rattle.pv_picks.specs.declared.evidence.StepPair.{StepPair}
+use Rattle.pv_picks.specs.Plain.Core.{Operation, Plus, Minus, Times}
+use Rattle.pv_picks.specs.Formulas.Values.{arithmetic, same_type}
+use Rattle.pv_picks.specs.Formulas.Heaps.{Heap}
+use Rattle.pv_picks.specs.Judge.States.{State}
+use Rattle.pv_picks.specs.Judge.Settings.{Next, known_or_picked, look_at_length}
+use Rattle.pv_picks.specs.Judge.Runs.{Failed, Judged, Maps, before_others, maps_from, step_value, pick_number, pick_steps, value_of_operation}
+use Rattle.pv_picks.proofs.Sames.{naturals_same}
 use Rattle.account_formulas.specs.Sights.{Lengths, LengthsAgree}
 use Rattle.account_formulas.specs.Runs.{Taken, all_maps, truly, RestNeverFails, GoesOnTo, with_lengths}
 use Rattle.account_formulas.proofs.Basics.{both, type_self, nat_self}

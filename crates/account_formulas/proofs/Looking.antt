@@ -5,17 +5,17 @@ use Rattle.std.proofs.lemmas.Option.{same_Some, none-some}
 use Rattle.pv_base.specs.declared.Span.{Span}
 use Rattle.pv_ast.specs.declared.PvType.TheVariants.{Int}
 use Rattle.pv_values.specs.declared.value.Value.{Value}
-use Rattle.pv_meaning.specs.Core.{Cut, Below, UpTo, Above, From, Provided, Parameter}
-use Rattle.pv_meaning.specs.Values.{number_in, reference_in, array_of, is_empty}
-use Rattle.pv_meaning.specs.Heaps.{Heap}
-use Rattle.pv_meaning.specs.Evaluation.{Scene}
-use Rattle.pv_meaning.specs.Meeting.{Sight, guard_term}
-use Rattle.pv_meaning.specs.Starts.{field_kind}
-use Rattle.pv_meaning.specs.States.{InElement, Cells, State, Bind}
-use Rattle.pv_meaning.specs.Settings.{Next, ArrayPart, look_at_length}
-use Rattle.pv_meaning.specs.Repetitions.{cells_at, Range, Look, AtElements, AtElement, AtLength, AtTerm, value_in, arrays_read, look_ahead, notice_parts, notice_cut, cut_all, cut_by}
-use Rattle.pv_meaning.specs.Judge.{Judged, Maps}
-use Rattle.typed_programs.specs.Expressions.{Home, Speech}
+use Rattle.pv_picks.specs.Plain.Core.{Cut, Below, UpTo, Above, From, Provided, Parameter}
+use Rattle.pv_picks.specs.Formulas.Values.{number_in, reference_in, array_of, is_empty}
+use Rattle.pv_picks.specs.Formulas.Heaps.{Heap}
+use Rattle.pv_picks.specs.Formulas.Evaluation.{Scene}
+use Rattle.pv_picks.specs.Formulas.Meeting.{Sight, guard_term}
+use Rattle.pv_picks.specs.Machine.Starts.{field_kind}
+use Rattle.pv_picks.specs.Judge.States.{InElement, Cells, State, Bind}
+use Rattle.pv_picks.specs.Judge.Settings.{Next, ArrayPart, look_at_length}
+use Rattle.pv_picks.specs.Judge.Repetitions.{cells_at, Range, Look, AtElements, AtElement, AtLength, AtTerm, value_in, arrays_read, look_ahead, notice_parts, notice_cut, cut_all, cut_by}
+use Rattle.pv_picks.specs.Judge.Runs.{Judged, Maps}
+use Rattle.pv_picks.specs.Typing.Expressions.{Home, Speech}
 use Rattle.account_formulas.specs.Sights.{Lengths, Contents, LengthsAgree, Sees, SceneFits}
 use Rattle.account_formulas.specs.Runs.{Taken, all_maps, truly, RestNeverFails, AreSettled, with_lengths}
 use Rattle.account_formulas.specs.Owning.{CutsTo}

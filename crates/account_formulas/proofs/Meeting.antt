@@ -11,16 +11,16 @@ use Rattle.pv_values.specs.declared.value.Value.{Value}
 use Rattle.pv_values.specs.declared.value.Value.TheVariants as value
 use Rattle.pv_values.specs.declared.value.Location.TheVariants as location
 use Rattle.pv_values.specs.Heaps.{same_number}
-use Rattle.pv_meaning.specs.Core.{Cut, Below, UpTo, Above, From, Provided, Expression, Formula, Fact, FieldPermission, ElementPermission, Holds, Instance, Star, When, Each, Items, NoItems, Join, Item, Elements, Repeated, Committed, Guarded, Fixed, Parameter, Program}
-use Rattle.pv_meaning.specs.Values.{number_in, truth_in, reference_in, equality, array_of, within, or_zero, width, is_empty}
-use Rattle.pv_meaning.specs.Evaluation.{Scene}
-use Rattle.pv_meaning.specs.Meeting.{Sight, Finding, AllMet, FirstUnmet, at, value_or, unless, first_of, at_each, passes, guard_term, behind, unmet, unmet_items, unmet_item}
-use Rattle.pv_meaning.specs.Repetitions.{Range, range_of, cut_by}
-use Rattle.typed_programs.specs.Expressions.{Home, Speech, type_in, Says}
+use Rattle.pv_picks.specs.Plain.Core.{Cut, Below, UpTo, Above, From, Provided, Expression, Formula, Fact, FieldPermission, ElementPermission, Holds, Instance, Star, When, Each, Items, NoItems, Join, Item, Elements, Repeated, Committed, Guarded, Fixed, Parameter, Program}
+use Rattle.pv_picks.specs.Formulas.Values.{number_in, truth_in, reference_in, equality, array_of, within, or_zero, width, is_empty}
+use Rattle.pv_picks.specs.Formulas.Evaluation.{Scene}
+use Rattle.pv_picks.specs.Formulas.Meeting.{Sight, Finding, AllMet, FirstUnmet, at, value_or, unless, first_of, at_each, passes, guard_term, behind, unmet, unmet_items, unmet_item}
+use Rattle.pv_picks.specs.Judge.Repetitions.{Range, range_of, cut_by}
+use Rattle.pv_picks.specs.Typing.Expressions.{Home, Speech, type_in, Says}
 use Rattle.account_formulas.specs.Sights.{value_at}
 use Rattle.account_formulas.specs.Good.{IsGood, AreGoodItems, IsGoodItem, AreGoodCuts, type_of_cut}
 use Rattle.account_formulas.specs.Owning.{Amounts, Owns, Owns.fact, Owns.field, Owns.element, Owns.holds, Owns.known, Owns.folded, Owns.star, Owns.when_on, Owns.when_off, Owns.each, OwnsItems, OwnsItems.no_items, OwnsItems.joined, OwnsItem, OwnsItem.nothing, OwnsItem.elements, OwnsItem.repeated, OwnsItem.committed, OwnsItem.cut_off, OwnsItem.cut, OwnsItem.fixed, OwnsItem.beside, CutsTo}
-use Rattle.meaning_laws.proofs.Sames.{front, back, numbers_same}
+use Rattle.pv_picks.proofs.Sames.{front, back, numbers_same}
 use Rattle.account_formulas.proofs.Basics.{both, not_false}
 use Rattle.account_formulas.proofs.Valuing.{value_then, values_then}
 use Rattle.account_formulas.proofs.Steady.{steady}

@@ -10,18 +10,18 @@ use Rattle.pv_ast.specs.declared.PvType.TheVariants.{Int, Object}
 use Rattle.pv_values.specs.declared.value.Value.{Value}
 use Rattle.pv_values.specs.declared.value.Value.TheVariants as value
 use Rattle.pv_values.specs.Heaps.{same_number}
-use Rattle.pv_meaning.specs.Core.{Cut, Expression, Variable, Equal, Implies, Formula, Fact, When, Items, NoItems, Join, Item, Guarded, Fixed, Parameter}
-use Rattle.pv_meaning.specs.Values.{number_in, truth_in, reference_in, equality, array_of, within, is_empty}
-use Rattle.pv_meaning.specs.Evaluation.{Scene}
-use Rattle.pv_meaning.specs.Meeting.{Sight, at, value_or, behind, passes, guard_term}
-use Rattle.pv_meaning.specs.Repetitions.{Range, range_of, cut_by}
-use Rattle.pv_meaning.specs.States.{Resource, InElement}
-use Rattle.typed_programs.specs.Expressions.{Home, Speech, type_in, Says}
+use Rattle.pv_picks.specs.Plain.Core.{Cut, Expression, Variable, Equal, Implies, Formula, Fact, When, Items, NoItems, Join, Item, Guarded, Fixed, Parameter}
+use Rattle.pv_picks.specs.Formulas.Values.{number_in, truth_in, reference_in, equality, array_of, within, is_empty}
+use Rattle.pv_picks.specs.Formulas.Evaluation.{Scene}
+use Rattle.pv_picks.specs.Formulas.Meeting.{Sight, at, value_or, behind, passes, guard_term}
+use Rattle.pv_picks.specs.Judge.Repetitions.{Range, range_of, cut_by}
+use Rattle.pv_picks.specs.Judge.States.{Resource, InElement}
+use Rattle.pv_picks.specs.Typing.Expressions.{Home, Speech, type_in, Says}
 use Rattle.account_formulas.specs.Sights.{value_at}
 use Rattle.account_formulas.specs.Good.{AreGoodItems, IsGoodItem, AreGoodCuts, type_of_cut}
 use Rattle.account_formulas.specs.Owning.{Amounts, IsPlaced, Owns, Owns.fact, Owns.element, Owns.holds, Owns.known, Owns.star, Owns.when_on, Owns.when_off, OwnsItems, OwnsItems.no_items, OwnsItems.joined, OwnsItem, OwnsItem.nothing, OwnsItem.elements, OwnsItem.repeated, OwnsItem.committed, OwnsItem.cut_off, OwnsItem.cut, OwnsItem.fixed, OwnsItem.beside, CutsTo}
 use Rattle.account_formulas.specs.Forms.{Guards, SameItem, SameItem.same_fact, SameItem.same_element, SameItem.same_committed, SameItem.same_guarded, SameItem.same_pure, SameItem.same_fixed, SameItem.same_fixed_fact, together, SameItems, SameItems.same_nothing, SameItems.same_alone, SameItems.same_together}
-use Rattle.meaning_laws.proofs.Sames.{front, back, numbers_same}
+use Rattle.pv_picks.proofs.Sames.{front, back, numbers_same}
 use Rattle.account_formulas.proofs.Basics.{nat_self, number_self}
 use Rattle.account_formulas.proofs.Valuing.{value_then}
 use Rattle.account_formulas.proofs.Steady.{steady}

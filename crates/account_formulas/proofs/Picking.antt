@@ -7,20 +7,20 @@ use Rattle.pv_ast.specs.declared.PvType.TheVariants.{Int, Truth, Object, IntArra
 use Rattle.pv_values.specs.Heaps.{same_number}
 use Rattle.pv_values.specs.declared.value.Value.{Value}
 use Rattle.pv_values.specs.declared.value.Value.TheVariants as value
-use Rattle.pv_meaning.specs.declared.evidence.StepPair.{StepPair}
-use Rattle.pv_meaning.specs.Heaps.{Heap}
-use Rattle.pv_meaning.specs.States.{State}
-use Rattle.pv_meaning.specs.Settings.{Next, as_truth, met_as, pick_value}
-use Rattle.pv_meaning.specs.Judge.{Judged, Maps, step_from}
-use Rattle.typed_programs.specs.Frames.{HasType}
+use Rattle.pv_picks.specs.declared.evidence.StepPair.{StepPair}
+use Rattle.pv_picks.specs.Formulas.Heaps.{Heap}
+use Rattle.pv_picks.specs.Judge.States.{State}
+use Rattle.pv_picks.specs.Judge.Settings.{Next, as_truth, met_as, pick_value}
+use Rattle.pv_picks.specs.Judge.Runs.{Judged, Maps, step_from}
+use Rattle.pv_picks.specs.Typing.Frames.{HasType}
 use Rattle.account_formulas.specs.Runs.{Taken, truly, RestNeverFails}
 use Rattle.account_formulas.specs.Growing.{IsPicked, AllBelow}
-use Rattle.machine_laws.specs.Typed.{IsUnused, IsArrayOf}
+use Rattle.pv_picks.specs.Typing.Heaps.{IsUnused, IsArrayOf}
 use Rattle.pv_base.specs.declared.Name.{Name}
 use Rattle.pv_values.specs.Typing.{is_number, is_truth, Refers}
 use Rattle.std.proofs.lemmas.Option.{none-some}
 use Rattle.account_formulas.proofs.Basics.{at_most, is_at_most, above, not_false}
-use Rattle.meaning_laws.proofs.Sames.{numbers_same}
+use Rattle.pv_picks.proofs.Sames.{numbers_same}
 use Rattle.account_formulas.proofs.Lengths.{never_number}
 
 abbrev pub having_met : State → List (PvType × ℕ) → State

@@ -6,13 +6,13 @@ use Rattle.pv_ast.specs.declared.PvType.{PvType}
 use Rattle.pv_ast.specs.declared.PvType.TheVariants.{Int, Truth, Object}
 use Rattle.pv_values.specs.declared.value.Value.{Value}
 use Rattle.pv_values.specs.declared.value.Value.TheVariants as value
-use Rattle.pv_meaning.specs.Core.{Cut, Expression, Formula, Fact, FieldPermission, ElementPermission, Holds, Instance, Star, When, Each, Items, NoItems, Join, Item, Elements, Repeated, Committed, Guarded, Fixed, Parameter}
-use Rattle.pv_meaning.specs.Values.{number_in, truth_in, equality, array_of, width}
-use Rattle.pv_meaning.specs.Heaps.{Heap}
-use Rattle.pv_meaning.specs.Evaluation.{Scene}
-use Rattle.pv_meaning.specs.Meeting.{Sight, Finding, AllMet, FirstUnmet, at, value_or, values_or, first_of, at_each, passes, guard_term, behind, unmet, unmet_items, unmet_item}
-use Rattle.typed_programs.specs.Expressions.{Home, Speech, Says, AllSay}
-use Rattle.typed_programs.specs.Blocks.{types_of}
+use Rattle.pv_picks.specs.Plain.Core.{Cut, Expression, Formula, Fact, FieldPermission, ElementPermission, Holds, Instance, Star, When, Each, Items, NoItems, Join, Item, Elements, Repeated, Committed, Guarded, Fixed, Parameter}
+use Rattle.pv_picks.specs.Formulas.Values.{number_in, truth_in, equality, array_of, width}
+use Rattle.pv_picks.specs.Formulas.Heaps.{Heap}
+use Rattle.pv_picks.specs.Formulas.Evaluation.{Scene}
+use Rattle.pv_picks.specs.Formulas.Meeting.{Sight, Finding, AllMet, FirstUnmet, at, value_or, values_or, first_of, at_each, passes, guard_term, behind, unmet, unmet_items, unmet_item}
+use Rattle.pv_picks.specs.Typing.Expressions.{Home, Speech, Says, AllSay}
+use Rattle.pv_picks.specs.Typing.Blocks.{types_of}
 use Rattle.account_formulas.specs.Good.{IsGood, AreGoodItems, IsGoodItem, AreGoodCuts, type_of_cut}
 use Rattle.account_formulas.proofs.Steady.{present_alone}
 

@@ -8,16 +8,16 @@ use Rattle.pv_ast.specs.declared.PvType.{PvType}
 use Rattle.pv_values.specs.declared.value.Value.{Value}
 use Rattle.pv_values.specs.declared.value.Value.TheVariants as value
 use Rattle.pv_fraction.specs.Amounts.{whole}
-use Rattle.pv_meaning.specs.declared.evidence.Pick.{Pick}
-use Rattle.pv_meaning.specs.Heaps.{Heap}
-use Rattle.pv_meaning.specs.Meeting.{Sight}
-use Rattle.pv_meaning.specs.States.{Resource, Cell, Written, Cells, Holding, State, scene_of, cells_of, amount_of, amount_held, cell_held, holding, at_resource, same_resource}
-use Rattle.pv_meaning.specs.Settings.{Next}
-use Rattle.pv_meaning.specs.Permissions.{gain, gain_on, add_whole}
-use Rattle.pv_meaning.specs.Judge.{Judged, Maps, content}
-use Rattle.machine_laws.specs.Typed.{IsUnused}
-use Rattle.typed_programs.specs.Frames.{HasType}
-use Rattle.meaning_laws.proofs.Sames.{resources_same}
+use Rattle.pv_picks.specs.declared.evidence.Pick.{Pick}
+use Rattle.pv_picks.specs.Formulas.Heaps.{Heap}
+use Rattle.pv_picks.specs.Formulas.Meeting.{Sight}
+use Rattle.pv_picks.specs.Judge.States.{Resource, Cell, Written, Cells, Holding, State, scene_of, cells_of, amount_of, amount_held, cell_held, holding, at_resource, same_resource}
+use Rattle.pv_picks.specs.Judge.Settings.{Next}
+use Rattle.pv_picks.specs.Judge.Permissions.{gain, gain_on, add_whole}
+use Rattle.pv_picks.specs.Judge.Runs.{Judged, Maps, content}
+use Rattle.pv_picks.specs.Typing.Heaps.{IsUnused}
+use Rattle.pv_picks.specs.Typing.Frames.{HasType}
+use Rattle.pv_picks.proofs.Sames.{resources_same}
 use Rattle.account_formulas.specs.Sights.{Contents, Stands, ContentsAgree, LengthsAgree, Sees}
 use Rattle.account_formulas.specs.Runs.{Taken, all_maps, truly, RestNeverFails, AreSettled, contents_of, GoesOnTo}
 use Rattle.account_formulas.specs.Owning.{IsPlaced}

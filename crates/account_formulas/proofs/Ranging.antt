@@ -9,18 +9,18 @@ use Rattle.pv_values.specs.declared.value.Value.{Value}
 use Rattle.pv_values.specs.declared.value.Value.TheVariants as value
 use Rattle.pv_values.specs.declared.value.Location.TheVariants as location
 use Rattle.pv_fraction.specs.Amounts.{whole}
-use Rattle.pv_meaning.specs.declared.evidence.StepPair.{StepPair}
-use Rattle.pv_meaning.specs.Core.{Program}
-use Rattle.pv_meaning.specs.Values.{within, is_empty, width}
-use Rattle.pv_meaning.specs.Heaps.{Heap}
-use Rattle.pv_meaning.specs.Starts.{field_kind}
-use Rattle.pv_meaning.specs.States.{Resource, InElement, FromSteps, Holding, State, scene_of, amount_of, amount_held, holding, is_among, index_of, cell_among, as_element, with_range}
-use Rattle.pv_meaning.specs.Settings.{Next}
-use Rattle.pv_meaning.specs.Permissions.{gain_range, has_room}
-use Rattle.pv_meaning.specs.Judge.{Judged, Maps, content, step_value, pick_steps}
-use Rattle.typed_programs.specs.Expressions.{IsElement}
-use Rattle.typed_programs.specs.Frames.{HasType}
-use Rattle.meaning_laws.proofs.Sames.{front, back, naturals_same}
+use Rattle.pv_picks.specs.declared.evidence.StepPair.{StepPair}
+use Rattle.pv_picks.specs.Plain.Core.{Program}
+use Rattle.pv_picks.specs.Formulas.Values.{within, is_empty, width}
+use Rattle.pv_picks.specs.Formulas.Heaps.{Heap}
+use Rattle.pv_picks.specs.Machine.Starts.{field_kind}
+use Rattle.pv_picks.specs.Judge.States.{Resource, InElement, FromSteps, Holding, State, scene_of, amount_of, amount_held, holding, is_among, index_of, cell_among, as_element, with_range}
+use Rattle.pv_picks.specs.Judge.Settings.{Next}
+use Rattle.pv_picks.specs.Judge.Permissions.{gain_range, has_room}
+use Rattle.pv_picks.specs.Judge.Runs.{Judged, Maps, content, step_value, pick_steps}
+use Rattle.pv_picks.specs.Typing.Expressions.{IsElement}
+use Rattle.pv_picks.specs.Typing.Frames.{HasType}
+use Rattle.pv_picks.proofs.Sames.{front, back, naturals_same}
 use Rattle.account_formulas.specs.Sights.{Lengths, LengthsAgree}
 use Rattle.account_formulas.specs.Runs.{Taken, all_maps, truly, RestNeverFails, GoesOnTo, with_lengths}
 use Rattle.account_formulas.specs.Owning.{IsPlaced}

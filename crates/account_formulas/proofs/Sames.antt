@@ -5,8 +5,8 @@ use Rattle.pv_values.specs.Heaps.{same_name}
 use Rattle.pv_values.specs.declared.value.Value.{Value}
 use Rattle.pv_values.specs.declared.value.Value.TheVariants as value
 use Rattle.pv_values.specs.Sames.{same_truth, same_value, same_elements}
-use Rattle.pv_meaning.specs.States.{Folded, same_folded}
-use Rattle.meaning_laws.proofs.Sames.{front, back, numbers_same, naturals_same, names_same}
+use Rattle.pv_picks.specs.Judge.States.{Folded, same_folded}
+use Rattle.pv_picks.proofs.Sames.{front, back, numbers_same, naturals_same, names_same}
 
 truths_same : (a b : Bool) → same_truth a b ≡ true → a ≡ b
 truths_same true true h = refl

@@ -7,12 +7,12 @@ use Rattle.pv_ast.specs.declared.PvType.{PvType}
 use Rattle.pv_ast.specs.declared.PvType.TheVariants.{Int, Truth, Object}
 use Rattle.pv_values.specs.declared.value.Value.{Value}
 use Rattle.pv_values.specs.declared.value.Value.TheVariants as value
-use Rattle.pv_meaning.specs.Core.{Expression, Constant, This, Result, Variable, Field, Element, Length, Not, Compute, Compare, Equal, And, Or, Implies, Old, Parameter}
-use Rattle.pv_meaning.specs.Values.{number_in, truth_in, reference_in, array_of}
-use Rattle.pv_meaning.specs.Evaluation.{Scene, Reader, evaluate}
-use Rattle.pv_meaning.specs.Meeting.{at}
-use Rattle.typed_programs.specs.Expressions.{Home, Speech, type_in, Says}
-use Rattle.meaning_laws.proofs.Sames.{names_same}
+use Rattle.pv_picks.specs.Plain.Core.{Expression, Constant, This, Result, Variable, Field, Element, Length, Not, Compute, Compare, Equal, And, Or, Implies, Old, Parameter}
+use Rattle.pv_picks.specs.Formulas.Values.{number_in, truth_in, reference_in, array_of}
+use Rattle.pv_picks.specs.Formulas.Evaluation.{Scene, Reader, evaluate}
+use Rattle.pv_picks.specs.Formulas.Meeting.{at}
+use Rattle.pv_picks.specs.Typing.Expressions.{Home, Speech, type_in, Says}
+use Rattle.pv_picks.proofs.Sames.{names_same}
 
 if_same : {R : Type 0} (b : Bool) (x y u v : R) → x ≡ u → y ≡ v → (if b then x else y) ≡ (if b then u else v)
 if_same true x y u v p q = p

@@ -1,10 +1,10 @@
 -- Local work keeps what a frame began with.
 use Rattle.std.proofs.Common.{ℕ, zero, suc, List, [], ◌∷◌, refl, ◌∙◌}
-use Rattle.pv_meaning.specs.Core.{Expression, Constant, This, Result, Variable, Field, Element, Length, Not, Compute, Compare, Equal, And, Or, Implies, Old, Stop, Then}
-use Rattle.pv_meaning.specs.Tasks.{Task, Evaluate, EvaluateAll, Combine, Choose, Branch, Turn, Put, Drop, Give, Unfolded, Run, Stand, Resume}
-use Rattle.pv_meaning.specs.Measures.{size_of_tasks}
+use Rattle.pv_picks.specs.Plain.Core.{Expression, Constant, This, Result, Variable, Field, Element, Length, Not, Compute, Compare, Equal, And, Or, Implies, Old, Stop, Then}
+use Rattle.pv_picks.specs.Machine.Tasks.{Task, Evaluate, EvaluateAll, Combine, Choose, Branch, Turn, Put, Drop, Give, Unfolded, Run, Stand, Resume}
+use Rattle.pv_picks.specs.Machine.Measures.{size_of_tasks}
 use Rattle.account_formulas.specs.Still.{IsStill}
-use Rattle.pv_meaning.specs.Frames.{Frame, evaluated, worked, after_work, settled}
+use Rattle.pv_picks.specs.Machine.Frames.{Frame, evaluated, worked, after_work, settled}
 
 still : (f : Frame) → IsStill f f
 still f = record { class = refl; method = refl; this = refl; begun = refl; old = refl }

@@ -5,11 +5,11 @@ use Rattle.std.specs.Int.{int_min, int_max}
 use Rattle.std.proofs.lemmas.Int.{ints, clamps}
 use Rattle.pv_values.specs.declared.value.Value.{Value}
 use Rattle.pv_values.specs.Heaps.{same_number}
-use Rattle.pv_meaning.specs.Core.{Cut, Below, UpTo, Above, From, Provided}
-use Rattle.pv_meaning.specs.Values.{number_in, truth_in, within, width}
-use Rattle.pv_meaning.specs.Meeting.{passes, sum_of_each}
-use Rattle.pv_meaning.specs.Repetitions.{Range, cut_by}
-use Rattle.meaning_laws.proofs.Sames.{front, back, numbers_same}
+use Rattle.pv_picks.specs.Plain.Core.{Cut, Below, UpTo, Above, From, Provided}
+use Rattle.pv_picks.specs.Formulas.Values.{number_in, truth_in, within, width}
+use Rattle.pv_picks.specs.Formulas.Meeting.{passes, sum_of_each}
+use Rattle.pv_picks.specs.Judge.Repetitions.{Range, cut_by}
+use Rattle.pv_picks.proofs.Sames.{front, back, numbers_same}
 use Rattle.account_formulas.proofs.Basics.{both, not_false, in_width, above}
 
 pub sum_at : (f : ℤ → ℕ) (n : ℕ) (low i : ℤ) → int_le low i ≡ true → int_lt i (low +ℤ pos n) ≡ true → f i ≤ sum_of_each f low n

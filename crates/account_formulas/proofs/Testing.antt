@@ -6,18 +6,18 @@ use Rattle.pv_base.specs.declared.Name.{Name}
 use Rattle.pv_ast.specs.declared.PvType.{PvType}
 use Rattle.pv_values.specs.declared.value.Value.{Value}
 use Rattle.pv_values.specs.declared.value.Value.TheVariants as value
-use Rattle.pv_meaning.specs.declared.evidence.Pick.{Pick}
-use Rattle.pv_meaning.specs.Core.{Manner, Plain, Tabled, Expression, Constant, This, Result, Variable, Field, Element, Length, Not, Compute, Compare, Equal, And, Or, Implies, Old, Parameter}
-use Rattle.pv_meaning.specs.Values.{number_in, truth_in, reference_in, arithmetic, array_of}
-use Rattle.pv_meaning.specs.Heaps.{Heap}
-use Rattle.pv_meaning.specs.Evaluation.{Scene, evaluate}
-use Rattle.pv_meaning.specs.Meeting.{or_stop, at}
-use Rattle.pv_meaning.specs.Starts.{field_kind}
-use Rattle.pv_meaning.specs.States.{InField, InElement, Cell, Cells, State}
-use Rattle.pv_meaning.specs.Settings.{Setting}
-use Rattle.pv_meaning.specs.Repetitions.{Look, AtElements, AtElement, AtLength, AtTerm, in_state, looks_in, or_blocked, operation_tested, test_reader}
-use Rattle.pv_meaning.specs.Judge.{Judged, content, judging_tests}
-use Rattle.typed_programs.specs.Expressions.{Home, Speech, type_in, Says}
+use Rattle.pv_picks.specs.declared.evidence.Pick.{Pick}
+use Rattle.pv_picks.specs.Plain.Core.{Manner, Plain, Tabled, Expression, Constant, This, Result, Variable, Field, Element, Length, Not, Compute, Compare, Equal, And, Or, Implies, Old, Parameter}
+use Rattle.pv_picks.specs.Formulas.Values.{number_in, truth_in, reference_in, arithmetic, array_of}
+use Rattle.pv_picks.specs.Formulas.Heaps.{Heap}
+use Rattle.pv_picks.specs.Formulas.Evaluation.{Scene, evaluate}
+use Rattle.pv_picks.specs.Formulas.Meeting.{or_stop, at}
+use Rattle.pv_picks.specs.Machine.Starts.{field_kind}
+use Rattle.pv_picks.specs.Judge.States.{InField, InElement, Cell, Cells, State}
+use Rattle.pv_picks.specs.Judge.Settings.{Setting}
+use Rattle.pv_picks.specs.Judge.Repetitions.{Look, AtElements, AtElement, AtLength, AtTerm, in_state, looks_in, or_blocked, operation_tested, test_reader}
+use Rattle.pv_picks.specs.Judge.Runs.{Judged, content, judging_tests}
+use Rattle.pv_picks.specs.Typing.Expressions.{Home, Speech, type_in, Says}
 use Rattle.account_formulas.specs.Good.{AreGoodLooks}
 use Rattle.account_formulas.specs.Sights.{Lengths, Contents, SceneFits}
 use Rattle.account_formulas.specs.Runs.{Taken, all_maps, AreSettled, with_lengths}

@@ -9,12 +9,12 @@ use Rattle.pv_values.specs.declared.value.Value.{Value}
 use Rattle.pv_values.specs.declared.value.Value.TheVariants as value
 use Rattle.pv_values.specs.declared.value.Location.TheVariants as location
 use Rattle.pv_values.specs.Typing.{Kind}
-use Rattle.pv_meaning.specs.Values.{reference_in, array_of}
-use Rattle.pv_meaning.specs.Heaps.{Heap}
-use Rattle.pv_meaning.specs.Meeting.{Sight}
-use Rattle.machine_laws.specs.Typed.{HasKindOf}
-use Rattle.typed_programs.specs.Expressions.{is_reference, IsElement, IsConstantOf}
-use Rattle.typed_programs.specs.Frames.{HasType}
+use Rattle.pv_picks.specs.Formulas.Values.{reference_in, array_of}
+use Rattle.pv_picks.specs.Formulas.Heaps.{Heap}
+use Rattle.pv_picks.specs.Formulas.Meeting.{Sight}
+use Rattle.pv_picks.specs.Typing.Heaps.{HasKindOf}
+use Rattle.pv_picks.specs.Typing.Expressions.{is_reference, IsElement, IsConstantOf}
+use Rattle.pv_picks.specs.Typing.Frames.{HasType}
 use Rattle.account_formulas.specs.Sights.{Contents, Sees, ValuesFit}
 
 -- what a run sees, with typed values

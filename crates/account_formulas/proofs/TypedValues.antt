@@ -7,14 +7,14 @@ use Rattle.pv_ast.specs.declared.PvType.TheVariants.{Int, Truth, Object}
 use Rattle.pv_values.specs.declared.value.Value.{Value}
 use Rattle.pv_values.specs.declared.value.Value.TheVariants as value
 use Rattle.pv_values.specs.declared.value.Location.TheVariants as location
-use Rattle.pv_meaning.specs.Core.{Expression, Constant, This, Result, Variable, Field, Element, Length, Not, Compute, Compare, Equal, And, Or, Implies, Old, Parameter}
-use Rattle.pv_meaning.specs.Values.{number_in, truth_in, reference_in, array_of, arithmetic, comparison, equality}
-use Rattle.pv_meaning.specs.Heaps.{Heap}
-use Rattle.pv_meaning.specs.Evaluation.{Scene}
-use Rattle.pv_meaning.specs.Meeting.{or_stop, value_or}
-use Rattle.pv_meaning.specs.Starts.{field_kind, kind_of}
-use Rattle.typed_programs.specs.Expressions.{Home, Speech, Says}
-use Rattle.typed_programs.specs.Frames.{HasType}
+use Rattle.pv_picks.specs.Plain.Core.{Expression, Constant, This, Result, Variable, Field, Element, Length, Not, Compute, Compare, Equal, And, Or, Implies, Old, Parameter}
+use Rattle.pv_picks.specs.Formulas.Values.{number_in, truth_in, reference_in, array_of, arithmetic, comparison, equality}
+use Rattle.pv_picks.specs.Formulas.Heaps.{Heap}
+use Rattle.pv_picks.specs.Formulas.Evaluation.{Scene}
+use Rattle.pv_picks.specs.Formulas.Meeting.{or_stop, value_or}
+use Rattle.pv_picks.specs.Machine.Starts.{field_kind, kind_of}
+use Rattle.pv_picks.specs.Typing.Expressions.{Home, Speech, Says}
+use Rattle.pv_picks.specs.Typing.Frames.{HasType}
 use Rattle.account_formulas.specs.Sights.{value_at, ValuesFit, SceneFits}
 use Rattle.account_formulas.proofs.Valuing.{found, reached}
 use Rattle.account_formulas.proofs.TypedReads.{constant_typed, field_typed, element_typed}

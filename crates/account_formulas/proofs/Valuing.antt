@@ -3,11 +3,11 @@ use Rattle.std.proofs.Common.{◌≡◌, Option, Some, None, List, refl, ap, sym
 use Rattle.std.proofs.lemmas.Option.{none-some}
 use Rattle.pv_values.specs.declared.value.Value.{Value}
 use Rattle.pv_values.specs.declared.value.Location.TheVariants as location
-use Rattle.pv_meaning.specs.Core.{Expression}
-use Rattle.pv_meaning.specs.Heaps.{Heap}
-use Rattle.pv_meaning.specs.Evaluation.{Scene}
-use Rattle.pv_meaning.specs.Meeting.{Sight, or_stop, heap_reader, value_or, values_or}
-use Rattle.meaning_laws.proofs.Readers.{ReadersRelated, evaluate_related, evaluate_all_related}
+use Rattle.pv_picks.specs.Plain.Core.{Expression}
+use Rattle.pv_picks.specs.Formulas.Heaps.{Heap}
+use Rattle.pv_picks.specs.Formulas.Evaluation.{Scene}
+use Rattle.pv_picks.specs.Formulas.Meeting.{Sight, or_stop, heap_reader, value_or, values_or}
+use Rattle.pv_picks.proofs.Readers.{ReadersRelated, evaluate_related, evaluate_all_related}
 use Rattle.account_formulas.specs.Sights.{value_at, values_at}
 
 module _ {A R : Type 0} (stop : R) (k : A → R) where

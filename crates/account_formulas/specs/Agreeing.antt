@@ -2,10 +2,10 @@
 use Rattle.std.specs.Prelude.{◌≡◌, Some, List}
 use Rattle.pv_base.specs.declared.Name.{Name}
 use Rattle.pv_ast.specs.declared.PvType.{PvType}
-use Rattle.pv_meaning.specs.Core.{Parameter}
-use Rattle.pv_meaning.specs.Values.{Variables}
-use Rattle.pv_meaning.specs.Evaluation.{Scene}
-use Rattle.typed_programs.specs.Expressions.{Speech, type_in}
+use Rattle.pv_picks.specs.Plain.Core.{Parameter}
+use Rattle.pv_picks.specs.Formulas.Values.{Variables}
+use Rattle.pv_picks.specs.Formulas.Evaluation.{Scene}
+use Rattle.pv_picks.specs.Typing.Expressions.{Speech, type_in}
 
 -- variables are equal on a scope
 abbrev pub AgreeOn : List Parameter → Variables → Variables → Type 0

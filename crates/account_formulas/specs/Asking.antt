@@ -8,9 +8,9 @@ use Rattle.pv_values.specs.declared.value.Value.TheVariants as value
 use Rattle.pv_values.specs.declared.value.Location.{Location}
 use Rattle.pv_values.specs.declared.value.Location.TheVariants as location
 use Rattle.pv_values.specs.Heaps.{same_name}
-use Rattle.pv_meaning.specs.Values.{within}
-use Rattle.pv_meaning.specs.Heaps.{Heap}
-use Rattle.pv_meaning.specs.States.{InField, InElement, OfToken, OfLock}
+use Rattle.pv_picks.specs.Formulas.Values.{within}
+use Rattle.pv_picks.specs.Formulas.Heaps.{Heap}
+use Rattle.pv_picks.specs.Judge.States.{InField, InElement, OfToken, OfLock}
 use Rattle.account_formulas.specs.Owning.{Amounts}
 
 -- an object has a class

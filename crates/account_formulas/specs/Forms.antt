@@ -6,12 +6,12 @@ use Rattle.pv_base.specs.declared.Span.{Span}
 use Rattle.pv_ast.specs.declared.PvType.{PvType}
 use Rattle.pv_ast.specs.declared.Token.TheVariants as token
 use Rattle.pv_values.specs.declared.value.Value.TheVariants as value
-use Rattle.pv_meaning.specs.Core.{Program, Expression, Variable, Equal, Implies, Cut, Formula, Fact, ElementPermission, Holds, Star, When, Items, NoItems, Join, Item, Elements, Repeated, Committed, Guarded, Fixed}
-use Rattle.pv_meaning.specs.Values.{truth_in, within, width}
-use Rattle.pv_meaning.specs.Evaluation.{Scene}
-use Rattle.pv_meaning.specs.Meeting.{Sight, value_or, behind, sum_of_each}
-use Rattle.pv_meaning.specs.States.{Resource}
-use Rattle.pv_meaning.specs.Starts.{true_formula}
+use Rattle.pv_picks.specs.Plain.Core.{Program, Expression, Variable, Equal, Implies, Cut, Formula, Fact, ElementPermission, Holds, Star, When, Items, NoItems, Join, Item, Elements, Repeated, Committed, Guarded, Fixed}
+use Rattle.pv_picks.specs.Formulas.Values.{truth_in, within, width}
+use Rattle.pv_picks.specs.Formulas.Evaluation.{Scene}
+use Rattle.pv_picks.specs.Formulas.Meeting.{Sight, value_or, behind, sum_of_each}
+use Rattle.pv_picks.specs.Judge.States.{Resource}
+use Rattle.pv_picks.specs.Machine.Starts.{true_formula}
 use Rattle.account_formulas.specs.Sights.{value_at}
 use Rattle.account_formulas.specs.Owning.{Amounts, OwnsItems}
 

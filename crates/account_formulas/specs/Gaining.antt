@@ -6,21 +6,21 @@ use Rattle.pv_ast.specs.declared.PvType.TheVariants.{Object}
 use Rattle.pv_values.specs.declared.value.Value.{Value}
 use Rattle.pv_values.specs.declared.value.Value.TheVariants as value
 use Rattle.pv_fraction.specs.Amounts.{whole}
-use Rattle.pv_meaning.specs.Core.{Program, Predicate}
-use Rattle.pv_meaning.specs.Values.{with_arguments, no_variables}
-use Rattle.pv_meaning.specs.Members.{predicate_named}
-use Rattle.pv_meaning.specs.Heaps.{Heap}
-use Rattle.pv_meaning.specs.Evaluation.{Scene}
-use Rattle.pv_meaning.specs.Meeting.{Sight}
-use Rattle.pv_meaning.specs.Frames.{outer_scene}
-use Rattle.pv_meaning.specs.States.{Resource, Bind, State, scene_of, cells_of, amount_of, no_cells, empty_state}
-use Rattle.pv_meaning.specs.Settings.{Next}
-use Rattle.pv_meaning.specs.Inhaling.{inhale}
-use Rattle.pv_meaning.specs.Judging.{finish}
-use Rattle.pv_meaning.specs.Judge.{Judged, Maps}
-use Rattle.typed_programs.specs.Expressions.{Home, silent}
-use Rattle.typed_programs.specs.Blocks.{types_of, over}
-use Rattle.typed_programs.specs.Frames.{HasType}
+use Rattle.pv_picks.specs.Plain.Core.{Program, Predicate}
+use Rattle.pv_picks.specs.Formulas.Values.{with_arguments, no_variables}
+use Rattle.pv_picks.specs.Plain.Members.{predicate_named}
+use Rattle.pv_picks.specs.Formulas.Heaps.{Heap}
+use Rattle.pv_picks.specs.Formulas.Evaluation.{Scene}
+use Rattle.pv_picks.specs.Formulas.Meeting.{Sight}
+use Rattle.pv_picks.specs.Machine.Frames.{outer_scene}
+use Rattle.pv_picks.specs.Judge.States.{Resource, Bind, State, scene_of, cells_of, amount_of, no_cells, empty_state}
+use Rattle.pv_picks.specs.Judge.Settings.{Next}
+use Rattle.pv_picks.specs.Judge.Inhaling.{inhale}
+use Rattle.pv_picks.specs.Judge.Judging.{finish}
+use Rattle.pv_picks.specs.Judge.Runs.{Judged, Maps}
+use Rattle.pv_picks.specs.Typing.Expressions.{Home, silent}
+use Rattle.pv_picks.specs.Typing.Blocks.{types_of, over}
+use Rattle.pv_picks.specs.Typing.Frames.{HasType}
 use Rattle.account_formulas.specs.Sights.{Contents, Sees, SceneFits}
 use Rattle.account_formulas.specs.Runs.{Taken, truly, RestNeverFails, AreSettled, contents_of, GoesOnTo}
 use Rattle.account_formulas.specs.Good.{IsGood}

@@ -1,10 +1,10 @@
 -- What is left of a state where a formula was given up.
 use Rattle.std.specs.Prelude.{◌≡◌, ◌+◌, ◌≤◌, ℕ, Bool, Option, Some, List}
-use Rattle.pv_meaning.specs.Core.{Program}
-use Rattle.pv_meaning.specs.Heaps.{Heap}
-use Rattle.pv_meaning.specs.States.{Resource, Folded, Holding, State, amount_held}
-use Rattle.pv_meaning.specs.Settings.{Next}
-use Rattle.pv_meaning.specs.Judge.{Judged, Maps}
+use Rattle.pv_picks.specs.Plain.Core.{Program}
+use Rattle.pv_picks.specs.Formulas.Heaps.{Heap}
+use Rattle.pv_picks.specs.Judge.States.{Resource, Folded, Holding, State, amount_held}
+use Rattle.pv_picks.specs.Judge.Settings.{Next}
+use Rattle.pv_picks.specs.Judge.Runs.{Judged, Maps}
 use Rattle.account_formulas.specs.Sights.{Lengths, LengthsAgree}
 use Rattle.account_formulas.specs.Runs.{Taken, RestNeverFails}
 use Rattle.account_formulas.specs.Owning.{Amounts, HasTrees}

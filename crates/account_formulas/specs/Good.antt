@@ -3,15 +3,15 @@
 use Rattle.std.specs.Prelude.{◌≡◌, ◌≤◌, Some, None, List, [], ◌∷◌}
 use Rattle.pv_base.specs.declared.Name.{Name}
 use Rattle.pv_ast.specs.declared.PvType.TheVariants.{Int, Truth, Object}
-use Rattle.pv_meaning.specs.Core.{Parameter, Predicate, Cut, Below, UpTo, Above, From, Provided, Formula, Fact, FieldPermission, ElementPermission, Holds, Instance, Star, When, Each, Items, NoItems, Join, Item, Elements, Repeated, Committed, Guarded, Fixed}
-use Rattle.pv_meaning.specs.Values.{array_of}
-use Rattle.pv_meaning.specs.Members.{field_type, predicate_named}
+use Rattle.pv_picks.specs.Plain.Core.{Parameter, Predicate, Cut, Below, UpTo, Above, From, Provided, Formula, Fact, FieldPermission, ElementPermission, Holds, Instance, Star, When, Each, Items, NoItems, Join, Item, Elements, Repeated, Committed, Guarded, Fixed}
+use Rattle.pv_picks.specs.Formulas.Values.{array_of}
+use Rattle.pv_picks.specs.Plain.Members.{field_type, predicate_named}
 use Rattle.pv_ast.specs.declared.PvType.{PvType}
 use Rattle.account_formulas.specs.Growing.{IsPicked}
-use Rattle.pv_meaning.specs.Meeting.{guard_term}
-use Rattle.pv_meaning.specs.Repetitions.{Look, AtElements, AtElement, AtLength, AtTerm, looks_of}
-use Rattle.typed_programs.specs.Expressions.{Home, Speech, type_in, IsElement, Says, AllSay}
-use Rattle.typed_programs.specs.Blocks.{types_of}
+use Rattle.pv_picks.specs.Formulas.Meeting.{guard_term}
+use Rattle.pv_picks.specs.Judge.Repetitions.{Look, AtElements, AtElement, AtLength, AtTerm, looks_of}
+use Rattle.pv_picks.specs.Typing.Expressions.{Home, Speech, type_in, IsElement, Says, AllSay}
+use Rattle.pv_picks.specs.Typing.Blocks.{types_of}
 
 -- a guard's term is a number, its condition a truth value
 abbrev pub type_of_cut : Cut → PvType

@@ -3,15 +3,15 @@ use Rattle.std.specs.Prelude.{◌≡◌, ◌≤◌, ◌<◌, ℕ, ℤ, Bool, tru
 use Rattle.pv_base.specs.declared.Name.{Name}
 use Rattle.pv_ast.specs.declared.PvType.{PvType}
 use Rattle.pv_ast.specs.declared.PvType.TheVariants.{Int, Truth, Object, IntArray, TruthArray, Null}
-use Rattle.pv_meaning.specs.Core.{Parameter, Program}
-use Rattle.pv_meaning.specs.Heaps.{Heap}
-use Rattle.pv_meaning.specs.Starts.{field_kind}
+use Rattle.pv_picks.specs.Plain.Core.{Parameter, Program}
+use Rattle.pv_picks.specs.Formulas.Heaps.{Heap}
+use Rattle.pv_picks.specs.Machine.Starts.{field_kind}
 use Rattle.pv_values.specs.declared.value.Value.{Value}
-use Rattle.pv_meaning.specs.declared.evidence.Pick.{Pick}
-use Rattle.pv_meaning.specs.States.{Resource, Holding, Cells, State}
-use Rattle.pv_meaning.specs.Judge.{content}
-use Rattle.machine_laws.specs.Typed.{IsUnused}
-use Rattle.typed_programs.specs.Expressions.{Speech}
+use Rattle.pv_picks.specs.declared.evidence.Pick.{Pick}
+use Rattle.pv_picks.specs.Judge.States.{Resource, Holding, Cells, State}
+use Rattle.pv_picks.specs.Judge.Runs.{content}
+use Rattle.pv_picks.specs.Typing.Heaps.{IsUnused}
+use Rattle.pv_picks.specs.Typing.Expressions.{Speech}
 use Rattle.account_formulas.specs.Sights.{Contents, Stands, ContentsAgree, LengthsAgree, ValuesFit}
 use Rattle.account_formulas.specs.Runs.{Taken, all_maps}
 use Rattle.account_formulas.specs.Owning.{IsPlaced}

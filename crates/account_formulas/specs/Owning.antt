@@ -9,17 +9,17 @@ use Rattle.pv_values.specs.declared.value.Value.{Value}
 use Rattle.pv_values.specs.declared.value.Value.TheVariants as value
 use Rattle.pv_values.specs.declared.value.Location.TheVariants as location
 use Rattle.pv_fraction.specs.Amounts.{whole}
-use Rattle.pv_meaning.specs.Core.{Expression, Program, Predicate, Cut, Formula, Fact, FieldPermission, ElementPermission, Holds, Instance, Star, When, Each, Items, NoItems, Join, Item, Elements, Repeated, Committed, Guarded, Fixed}
-use Rattle.pv_meaning.specs.Members.{predicate_named}
-use Rattle.pv_meaning.specs.Values.{number_in, truth_in, reference_in, array_of, within, is_empty}
-use Rattle.pv_meaning.specs.Heaps.{Heap}
-use Rattle.pv_meaning.specs.Evaluation.{Scene}
-use Rattle.pv_meaning.specs.Meeting.{Sight, at, guard_term}
-use Rattle.pv_meaning.specs.States.{Resource, InField, InElement, OfToken, OfLock, Folded}
-use Rattle.pv_meaning.specs.Repetitions.{Range, range_of, cut_by}
-use Rattle.pv_meaning.specs.Frames.{outer_scene, only_now}
-use Rattle.typed_programs.specs.Expressions.{IsElement}
-use Rattle.typed_programs.specs.Frames.{HasType}
+use Rattle.pv_picks.specs.Plain.Core.{Expression, Program, Predicate, Cut, Formula, Fact, FieldPermission, ElementPermission, Holds, Instance, Star, When, Each, Items, NoItems, Join, Item, Elements, Repeated, Committed, Guarded, Fixed}
+use Rattle.pv_picks.specs.Plain.Members.{predicate_named}
+use Rattle.pv_picks.specs.Formulas.Values.{number_in, truth_in, reference_in, array_of, within, is_empty}
+use Rattle.pv_picks.specs.Formulas.Heaps.{Heap}
+use Rattle.pv_picks.specs.Formulas.Evaluation.{Scene}
+use Rattle.pv_picks.specs.Formulas.Meeting.{Sight, at, guard_term}
+use Rattle.pv_picks.specs.Judge.States.{Resource, InField, InElement, OfToken, OfLock, Folded}
+use Rattle.pv_picks.specs.Judge.Repetitions.{Range, range_of, cut_by}
+use Rattle.pv_picks.specs.Machine.Frames.{outer_scene, only_now}
+use Rattle.pv_picks.specs.Typing.Expressions.{IsElement}
+use Rattle.pv_picks.specs.Typing.Frames.{HasType}
 use Rattle.account_formulas.specs.Sights.{value_at, values_at, Stands}
 
 -- how much of each resource

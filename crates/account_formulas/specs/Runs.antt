@@ -1,11 +1,11 @@
 -- The rest of a run of the judge under true arithmetic, by the picks for ranges that were taken: that it never fails.
 use Rattle.std.specs.Prelude.{◌≡◌, ℕ, List, [], option_map}
 use Rattle.pv_base.specs.declared.Span.{Span}
-use Rattle.pv_meaning.specs.declared.check.Check.{Check}
-use Rattle.pv_meaning.specs.declared.evidence.Pick.{Pick}
-use Rattle.pv_meaning.specs.States.{Resource, Cells, State}
-use Rattle.pv_meaning.specs.Settings.{Setting}
-use Rattle.pv_meaning.specs.Judge.{Failed, Judged, judging, Maps, maps_from, content}
+use Rattle.pv_picks.specs.declared.check.Check.{Check}
+use Rattle.pv_picks.specs.declared.evidence.Pick.{Pick}
+use Rattle.pv_picks.specs.Judge.States.{Resource, Cells, State}
+use Rattle.pv_picks.specs.Judge.Settings.{Setting}
+use Rattle.pv_picks.specs.Judge.Runs.{Failed, Judged, judging, Maps, maps_from, content}
 use Rattle.account_formulas.specs.Sights.{Lengths, Contents}
 
 -- the picks for ranges that a run took: how many, and their maps

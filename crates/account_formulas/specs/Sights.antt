@@ -7,14 +7,14 @@ use Rattle.pv_values.specs.declared.value.Value.{Value}
 use Rattle.pv_values.specs.declared.value.Value.TheVariants as value
 use Rattle.pv_values.specs.declared.value.Location.TheVariants as location
 use Rattle.pv_values.specs.Typing.{Kind, is_number, is_truth}
-use Rattle.pv_meaning.specs.Core.{Expression, Parameter}
-use Rattle.pv_meaning.specs.Heaps.{Heap}
-use Rattle.pv_meaning.specs.Evaluation.{Scene}
-use Rattle.pv_meaning.specs.Meeting.{Sight, value_or, values_or}
-use Rattle.pv_meaning.specs.States.{Resource, InField, InElement, OfToken, OfLock}
-use Rattle.machine_laws.specs.Typed.{HasKindOf, HoldsOnly}
-use Rattle.typed_programs.specs.Expressions.{Home, Speech}
-use Rattle.typed_programs.specs.Frames.{HasType, VariablesFit}
+use Rattle.pv_picks.specs.Plain.Core.{Expression, Parameter}
+use Rattle.pv_picks.specs.Formulas.Heaps.{Heap}
+use Rattle.pv_picks.specs.Formulas.Evaluation.{Scene}
+use Rattle.pv_picks.specs.Formulas.Meeting.{Sight, value_or, values_or}
+use Rattle.pv_picks.specs.Judge.States.{Resource, InField, InElement, OfToken, OfLock}
+use Rattle.pv_picks.specs.Typing.Heaps.{HasKindOf, HoldsOnly}
+use Rattle.pv_picks.specs.Typing.Expressions.{Home, Speech}
+use Rattle.pv_picks.specs.Typing.Frames.{HasType, VariablesFit}
 
 -- lengths that are known, by the type of the elements and the array
 abbrev pub Lengths : Type 0

@@ -8,26 +8,26 @@ use Rattle.pv_values.specs.declared.value.Value.{Value}
 use Rattle.pv_values.specs.declared.value.Value.TheVariants as value
 use Rattle.pv_values.specs.declared.value.Location.{Location}
 use Rattle.pv_fraction.specs.Amounts.{whole}
-use Rattle.pv_meaning.specs.declared.check.Check.{Check}
-use Rattle.pv_meaning.specs.declared.unit.PvUnit.{PvUnit}
-use Rattle.pv_meaning.specs.Units.{task_of, judge_task}
-use Rattle.pv_meaning.specs.Core.{Expression, Formula, Items, Parameter, Program}
-use Rattle.pv_meaning.specs.Values.{number_in, within, width}
-use Rattle.pv_meaning.specs.Evaluation.{Scene}
-use Rattle.pv_meaning.specs.Heaps.{Heap}
-use Rattle.pv_meaning.specs.Meeting.{Sight, at, unmet, IsMet, sum_of_each, units_in}
-use Rattle.pv_meaning.specs.States.{Resource, Folded, State, cells_of, amount_of}
-use Rattle.pv_meaning.specs.Settings.{Next}
-use Rattle.pv_meaning.specs.Inhaling.{inhale}
-use Rattle.pv_meaning.specs.Exhaling.{Giving, exhale}
-use Rattle.pv_meaning.specs.Frames.{Frame, only_now, settled}
-use Rattle.pv_meaning.specs.Starts.{field_kind, is_plain}
-use Rattle.pv_meaning.specs.Judging.{finish}
-use Rattle.pv_meaning.specs.Judge.{Judged, Maps, Suspended}
-use Rattle.pv_meaning.specs.Grounds.{Never, NeverFails}
-use Rattle.machine_laws.specs.Typed.{IsTypedHeap}
-use Rattle.typed_programs.specs.Expressions.{Home, Speech, type_in, Says}
-use Rattle.typed_programs.specs.Frames.{HasType}
+use Rattle.pv_picks.specs.declared.check.Check.{Check}
+use Rattle.pv_picks.specs.declared.unit.PvUnit.{PvUnit}
+use Rattle.pv_picks.specs.Judge.UnitRuns.{task_of, judge_task}
+use Rattle.pv_picks.specs.Plain.Core.{Expression, Formula, Items, Parameter, Program}
+use Rattle.pv_picks.specs.Formulas.Values.{number_in, within, width}
+use Rattle.pv_picks.specs.Formulas.Evaluation.{Scene}
+use Rattle.pv_picks.specs.Formulas.Heaps.{Heap}
+use Rattle.pv_picks.specs.Formulas.Meeting.{Sight, at, unmet, IsMet, sum_of_each, units_in}
+use Rattle.pv_picks.specs.Judge.States.{Resource, Folded, State, cells_of, amount_of}
+use Rattle.pv_picks.specs.Judge.Settings.{Next}
+use Rattle.pv_picks.specs.Judge.Inhaling.{inhale}
+use Rattle.pv_picks.specs.Judge.Exhaling.{Giving, exhale}
+use Rattle.pv_picks.specs.Machine.Frames.{Frame, only_now, settled}
+use Rattle.pv_picks.specs.Machine.Starts.{field_kind, is_plain}
+use Rattle.pv_picks.specs.Judge.Judging.{finish}
+use Rattle.pv_picks.specs.Judge.Runs.{Judged, Maps, Suspended}
+use Rattle.pv_picks.specs.Verdicts.Grounds.{Never, NeverFails}
+use Rattle.pv_picks.specs.Typing.Heaps.{IsTypedHeap}
+use Rattle.pv_picks.specs.Typing.Expressions.{Home, Speech, type_in, Says}
+use Rattle.pv_picks.specs.Typing.Frames.{HasType}
 use Rattle.account_formulas.specs.Sights.{Lengths, LengthsAgree, ContentsAgree, ValuesFit, SceneFits, value_at}
 use Rattle.account_formulas.specs.Runs.{Taken, truly, RestNeverFails, AreSettled}
 use Rattle.account_formulas.specs.Good.{IsGood, AreGoodItems}

@@ -6,19 +6,19 @@ use Rattle.pv_base.specs.declared.Span.{Span}
 use Rattle.pv_ast.specs.declared.PvType.{PvType}
 use Rattle.pv_ast.specs.declared.PvType.TheVariants.{Object}
 use Rattle.pv_values.specs.declared.value.Value.TheVariants as value
-use Rattle.pv_meaning.specs.Core.{Action, Parameter, Program}
-use Rattle.pv_meaning.specs.Values.{reference_in}
-use Rattle.pv_meaning.specs.Heaps.{Heap}
-use Rattle.pv_meaning.specs.States as states
-use Rattle.pv_meaning.specs.States.{State}
-use Rattle.pv_meaning.specs.Tasks.{AtAction, Task, Stand}
-use Rattle.pv_meaning.specs.Frames.{Frame, top, pops, body_scene}
-use Rattle.typed_programs.specs.Blocks.{Allows}
-use Rattle.typed_programs.specs.Tasks.{at_action}
-use Rattle.typed_programs.specs.Frames as typed
-use Rattle.typed_programs.specs.Frames.{HasType}
-use Rattle.typed_programs.proofs.Local.{top-fits, rest-fits}
-use Rattle.typed_programs.proofs.Kept.{object-fits}
+use Rattle.pv_picks.specs.Plain.Core.{Action, Parameter, Program}
+use Rattle.pv_picks.specs.Formulas.Values.{reference_in}
+use Rattle.pv_picks.specs.Formulas.Heaps.{Heap}
+use Rattle.pv_picks.specs.Judge.States as states
+use Rattle.pv_picks.specs.Judge.States.{State}
+use Rattle.pv_picks.specs.Machine.Tasks.{AtAction, Task, Stand}
+use Rattle.pv_picks.specs.Machine.Frames.{Frame, top, pops, body_scene}
+use Rattle.pv_picks.specs.Typing.Blocks.{Allows}
+use Rattle.pv_picks.specs.Typing.Tasks.{at_action}
+use Rattle.pv_picks.specs.Typing.Frames as typed
+use Rattle.pv_picks.specs.Typing.Frames.{HasType}
+use Rattle.machine_laws.proofs.Local.{top-fits, rest-fits}
+use Rattle.machine_laws.proofs.Kept.{object-fits}
 use Rattle.account_formulas.specs.Runs.{Taken, truly, RestNeverFails, AreSettled, GoesOnTo}
 use Rattle.account_formulas.specs.Owning.{Amounts, HasTrees}
 use Rattle.account_formulas.specs.Growing.{StateFits}

@@ -5,17 +5,17 @@ use Rattle.std.proofs.lemmas.Option.{same_Some}
 use Rattle.pv_base.specs.declared.Name.{Name}
 use Rattle.pv_base.specs.declared.Span.{Span}
 use Rattle.pv_ast.specs.declared.Token.TheVariants as token
-use Rattle.pv_meaning.specs.declared.check.Check.TheVariants as check
-use Rattle.pv_meaning.specs.Core.{Formula, Commit, Program}
-use Rattle.pv_meaning.specs.Members.{invariant_of}
-use Rattle.pv_meaning.specs.Heaps.{at_number}
-use Rattle.pv_meaning.specs.Meeting.{found_met}
-use Rattle.pv_meaning.specs.States.{Resource, OfToken, OfLock}
-use Rattle.pv_meaning.specs.Tasks.{AtAction, Task, Stand}
-use Rattle.pv_meaning.specs.Frames.{Frame, pops, settled, outer_scene}
-use Rattle.pv_meaning.specs.Worlds.{World, Mode, with_frames, with_committed_object, has_no_frame, is_held_back}
-use Rattle.pv_meaning.specs.Steps.{Result, needs, act_commit, keeps_invariant, act_tasks, act_frames, act}
-use Rattle.meaning_laws.proofs.Sames.{naturals_same}
+use Rattle.pv_picks.specs.declared.check.Check.TheVariants as check
+use Rattle.pv_picks.specs.Plain.Core.{Formula, Commit, Program}
+use Rattle.pv_picks.specs.Plain.Members.{invariant_of}
+use Rattle.pv_picks.specs.Formulas.Heaps.{at_number}
+use Rattle.pv_picks.specs.Formulas.Meeting.{found_met}
+use Rattle.pv_picks.specs.Judge.States.{Resource, OfToken, OfLock}
+use Rattle.pv_picks.specs.Machine.Tasks.{AtAction, Task, Stand}
+use Rattle.pv_picks.specs.Machine.Frames.{Frame, pops, settled, outer_scene}
+use Rattle.pv_picks.specs.Machine.Worlds.{World, Mode, with_frames, with_committed_object, has_no_frame, is_held_back}
+use Rattle.pv_picks.specs.Machine.Steps.{Result, needs, act_commit, keeps_invariant, act_tasks, act_frames, act}
+use Rattle.pv_picks.proofs.Sames.{naturals_same}
 use Rattle.account_formulas.specs.Owning.{KeepsOwning}
 use Rattle.account_formulas.specs.Growing.{HeapFits}
 use Rattle.account_formulas.specs.Gaining.{PredicatesFit}
@@ -30,7 +30,7 @@ use Rattle.account.proofs.LocalWork.{settled_goes}
 use Rattle.account.proofs.Sums.{runs_in_total, total_with_runs, total_with_guard}
 use Rattle.account.proofs.Stepping.{is_not_null}
 use Rattle.account_threads.specs.Parts.{InvariantsFit}
-use Rattle.account_threads.proofs.Locks.{locks_less}
+use Rattle.account.proofs.Locks.{locks_less}
 use Rattle.account_threads.proofs.Acting.{object_on, allowed, acts_on_class}
 use Rattle.account_threads.proofs.Committing.{CommitGoes, commits_go}
 use Rattle.account_threads.proofs.Moving.{owners_with}

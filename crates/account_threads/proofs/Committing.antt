@@ -9,20 +9,20 @@ use Rattle.pv_ast.specs.declared.Token.TheVariants as token
 use Rattle.pv_values.specs.declared.value.Value.TheVariants as value
 use Rattle.pv_values.specs.Heaps.{same_name}
 use Rattle.pv_fraction.specs.Amounts.{whole}
-use Rattle.pv_meaning.specs.declared.check.Check.TheVariants as check
-use Rattle.pv_meaning.specs.Core.{Formula, Commit, Program}
-use Rattle.pv_meaning.specs.Members.{invariant_of}
-use Rattle.pv_meaning.specs.Heaps.{Heap}
-use Rattle.pv_meaning.specs.Meeting.{IsMet}
-use Rattle.pv_meaning.specs.States as states
-use Rattle.pv_meaning.specs.States.{Resource, OfToken, State, amount_of, with_amount}
-use Rattle.pv_meaning.specs.Permissions.{add_token}
-use Rattle.pv_meaning.specs.Rows.{bind_on, exhale_at}
-use Rattle.pv_meaning.specs.Judging.{formula_of}
-use Rattle.pv_meaning.specs.Tasks.{AtAction, Task, Stand}
-use Rattle.pv_meaning.specs.Frames.{Frame, pops, only_now, outer_scene}
-use Rattle.meaning_laws.proofs.Sames.{back, naturals_same}
-use Rattle.typed_programs.specs.Frames.{HasType}
+use Rattle.pv_picks.specs.declared.check.Check.TheVariants as check
+use Rattle.pv_picks.specs.Plain.Core.{Formula, Commit, Program}
+use Rattle.pv_picks.specs.Plain.Members.{invariant_of}
+use Rattle.pv_picks.specs.Formulas.Heaps.{Heap}
+use Rattle.pv_picks.specs.Formulas.Meeting.{IsMet}
+use Rattle.pv_picks.specs.Judge.States as states
+use Rattle.pv_picks.specs.Judge.States.{Resource, OfToken, State, amount_of, with_amount}
+use Rattle.pv_picks.specs.Judge.Permissions.{add_token}
+use Rattle.pv_picks.specs.Judge.Rows.{bind_on, exhale_at}
+use Rattle.pv_picks.specs.Judge.Judging.{formula_of}
+use Rattle.pv_picks.specs.Machine.Tasks.{AtAction, Task, Stand}
+use Rattle.pv_picks.specs.Machine.Frames.{Frame, pops, only_now, outer_scene}
+use Rattle.pv_picks.proofs.Sames.{back, naturals_same}
+use Rattle.pv_picks.specs.Typing.Frames.{HasType}
 use Rattle.account_formulas.specs.Runs.{Taken, truly, RestNeverFails}
 use Rattle.account_formulas.specs.Owning.{Amounts, Owns, KeepsOwning}
 use Rattle.account_formulas.specs.Growing.{StateFits, HeapFits}
@@ -36,7 +36,7 @@ use Rattle.account.specs.Frames as account
 use Rattle.account.specs.Frames.{IsRunOf, amounts_of}
 use Rattle.account.specs.Owners.{without_locks}
 use Rattle.account_threads.specs.Parts.{InvariantsFit}
-use Rattle.account_threads.proofs.Locks.{goes_on_locked}
+use Rattle.account.proofs.Locks.{goes_on_locked}
 use Rattle.account_threads.proofs.Left.{less_fits, less_amounts, less_there}
 use Rattle.account_threads.proofs.OfObject.{by_test, object_gives, object_met, invariant_stays}
 use Rattle.account_threads.proofs.Acting.{object_on, SaysLeft, run_after, acts_on_class, says_after, acted}

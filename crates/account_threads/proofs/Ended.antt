@@ -7,20 +7,20 @@ use Rattle.pv_ast.specs.declared.PvType.TheVariants.{Object}
 use Rattle.pv_ast.specs.declared.Token.TheVariants as token
 use Rattle.pv_values.specs.declared.value.Value.TheVariants as value
 use Rattle.pv_fraction.specs.Amounts.{whole}
-use Rattle.pv_meaning.specs.declared.check.Check.TheVariants as check
-use Rattle.pv_meaning.specs.Core.{Formula, Method, Program}
-use Rattle.pv_meaning.specs.Members.{run_of}
-use Rattle.pv_meaning.specs.Heaps.{Heap, at_number}
-use Rattle.pv_meaning.specs.Meeting.{AllMet, unmet}
-use Rattle.pv_meaning.specs.States.{Resource, OfToken, OfLock}
-use Rattle.pv_meaning.specs.Frames.{Frame, contract_scene, sight_of, at_lengths_of, only_now, outer_scene}
-use Rattle.pv_meaning.specs.Worlds.{RunOf, MemberOf, ThreadState, World, Mode, with_frames, with_state, has_no_frame, is_held_back}
-use Rattle.pv_meaning.specs.Steps.{Result, needs_met, ended, returned, act_end, act_tasks, act_frames, act}
-use Rattle.meaning_laws.proofs.Sames.{naturals_same}
-use Rattle.typed_programs.specs.Expressions.{silent}
-use Rattle.typed_programs.specs.Frames.{HasType}
-use Rattle.typing_laws.specs.Formulas.{in_class}
-use Rattle.pv_meaning.specs.Judging.{finish}
+use Rattle.pv_picks.specs.declared.check.Check.TheVariants as check
+use Rattle.pv_picks.specs.Plain.Core.{Formula, Method, Program}
+use Rattle.pv_picks.specs.Plain.Members.{run_of}
+use Rattle.pv_picks.specs.Formulas.Heaps.{Heap, at_number}
+use Rattle.pv_picks.specs.Formulas.Meeting.{AllMet, unmet}
+use Rattle.pv_picks.specs.Judge.States.{Resource, OfToken, OfLock}
+use Rattle.pv_picks.specs.Machine.Frames.{Frame, contract_scene, sight_of, at_lengths_of, only_now, outer_scene}
+use Rattle.pv_picks.specs.Machine.Worlds.{RunOf, MemberOf, ThreadState, World, Mode, with_frames, with_state, has_no_frame, is_held_back}
+use Rattle.pv_picks.specs.Machine.Steps.{Result, needs_met, ended, returned, act_end, act_tasks, act_frames, act}
+use Rattle.pv_picks.proofs.Sames.{naturals_same}
+use Rattle.pv_picks.specs.Typing.Expressions.{silent}
+use Rattle.pv_picks.specs.Typing.Frames.{HasType}
+use Rattle.core_trees.specs.Formulas.{in_class}
+use Rattle.pv_picks.specs.Judge.Judging.{finish}
 use Rattle.account_formulas.specs.Runs.{truly}
 use Rattle.account_formulas.specs.Giving.{Gave}
 use Rattle.account_formulas.proofs.Basics.{nat_self}
@@ -39,7 +39,7 @@ use Rattle.account.specs.Accounts.{Account, Kept}
 use Rattle.account.proofs.Sums.{total_with_runs, total_with_promise}
 use Rattle.account.proofs.Ended.{past_fits, end_scene, end_gives, end_met}
 use Rattle.account_threads.specs.Parts.{RunsFit}
-use Rattle.account_threads.proofs.Locks.{locks_less, goes_on_locked}
+use Rattle.account.proofs.Locks.{locks_less, goes_on_locked}
 use Rattle.account_threads.proofs.OfObject.{object_scene}
 use Rattle.account_threads.proofs.Moving.{owners_with}
 use Rattle.account_threads.proofs.Ending.{no_role, families_end}

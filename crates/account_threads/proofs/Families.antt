@@ -6,14 +6,14 @@ use Rattle.pv_base.specs.declared.Name.{Name}
 use Rattle.pv_ast.specs.declared.PvType.TheVariants.{Object}
 use Rattle.pv_values.specs.declared.value.Value.TheVariants as value
 use Rattle.pv_fraction.specs.Amounts.{whole}
-use Rattle.pv_meaning.specs.Core.{Program}
-use Rattle.pv_meaning.specs.Heaps.{Heap, at_number}
-use Rattle.pv_meaning.specs.States.{Resource}
-use Rattle.pv_meaning.specs.Frames.{Frame}
-use Rattle.pv_meaning.specs.Worlds.{Role, Entry, RunOf, MemberOf, Thread, OpenBlock, ThreadState, World}
-use Rattle.pv_meaning.specs.Steps.{Result, waits_unless}
-use Rattle.meaning_laws.proofs.Sames.{naturals_same}
-use Rattle.typed_programs.specs.Frames.{HasType}
+use Rattle.pv_picks.specs.Plain.Core.{Program}
+use Rattle.pv_picks.specs.Formulas.Heaps.{Heap, at_number}
+use Rattle.pv_picks.specs.Judge.States.{Resource}
+use Rattle.pv_picks.specs.Machine.Frames.{Frame}
+use Rattle.pv_picks.specs.Machine.Worlds.{Role, Entry, RunOf, MemberOf, Thread, OpenBlock, ThreadState, World}
+use Rattle.pv_picks.specs.Machine.Steps.{Result, waits_unless}
+use Rattle.pv_picks.proofs.Sames.{naturals_same}
+use Rattle.pv_picks.specs.Typing.Frames.{HasType}
 use Rattle.account_formulas.specs.Owning.{Amounts}
 use Rattle.account_formulas.specs.Growing.{HeapFits}
 use Rattle.account_formulas.proofs.Basics.{nat_self}

@@ -1,15 +1,15 @@
 -- More objects are committed: what is owned stays so, and all that is said of threads goes on to hold.
 use Rattle.std.proofs.Common.{◌≡◌, ℕ, ◌+◌, ℤ, pos, ◌-ℤ◌, Bool, true, false, Option, Some, None, List, [], ◌∷◌}
 use Rattle.pv_base.specs.declared.Name.{Name}
-use Rattle.pv_meaning.specs.Core.{Barrier, Formula, Items, Item, Message, Program}
-use Rattle.pv_meaning.specs.Heaps.{Heap}
-use Rattle.pv_meaning.specs.Evaluation.{Scene}
-use Rattle.pv_meaning.specs.Meeting.{Sight}
-use Rattle.pv_meaning.specs.States.{Folded, State}
-use Rattle.pv_meaning.specs.Repetitions.{Range}
-use Rattle.pv_meaning.specs.Tasks.{Loop, Task}
-use Rattle.pv_meaning.specs.Frames.{Frame, body_scene, only_now, outer_scene}
-use Rattle.pv_meaning.specs.Worlds.{Role, Entry, RunOf, MemberOf, ThreadState, Thread, OpenBlock}
+use Rattle.pv_picks.specs.Plain.Core.{Barrier, Formula, Items, Item, Message, Program}
+use Rattle.pv_picks.specs.Formulas.Heaps.{Heap}
+use Rattle.pv_picks.specs.Formulas.Evaluation.{Scene}
+use Rattle.pv_picks.specs.Formulas.Meeting.{Sight}
+use Rattle.pv_picks.specs.Judge.States.{Folded, State}
+use Rattle.pv_picks.specs.Judge.Repetitions.{Range}
+use Rattle.pv_picks.specs.Machine.Tasks.{Loop, Task}
+use Rattle.pv_picks.specs.Machine.Frames.{Frame, body_scene, only_now, outer_scene}
+use Rattle.pv_picks.specs.Machine.Worlds.{Role, Entry, RunOf, MemberOf, ThreadState, Thread, OpenBlock}
 use Rattle.account_formulas.specs.Runs.{Taken}
 use Rattle.account_formulas.specs.Owning.{Amounts, KeepsOwning, HasTrees, Owns, Owns.fact, Owns.field, Owns.element, Owns.holds, Owns.known, Owns.folded, Owns.star, Owns.when_on, Owns.when_off, Owns.each, OwnsItems, OwnsItems.no_items, OwnsItems.joined, OwnsItem, OwnsItem.nothing, OwnsItem.elements, OwnsItem.repeated, OwnsItem.committed, OwnsItem.cut_off, OwnsItem.cut, OwnsItem.fixed, OwnsItem.beside}
 use Rattle.account_formulas.specs.Growing.{StateFits}

@@ -6,21 +6,21 @@ use Rattle.pv_base.specs.declared.Name.{Name}
 use Rattle.pv_base.specs.declared.Span.{Span}
 use Rattle.pv_ast.specs.declared.Token.TheVariants as token
 use Rattle.pv_fraction.specs.Amounts.{whole}
-use Rattle.pv_meaning.specs.declared.check.Check.TheVariants as check
-use Rattle.pv_meaning.specs.Core.{Method, Fork, Program}
-use Rattle.pv_meaning.specs.Members.{run_of}
-use Rattle.pv_meaning.specs.Heaps.{at_number}
-use Rattle.pv_meaning.specs.Meeting.{AllMet, unmet, found_met}
-use Rattle.pv_meaning.specs.States as states
-use Rattle.pv_meaning.specs.States.{Resource, OfToken, OfLock, same_token, same_resource}
-use Rattle.pv_meaning.specs.Permissions.{add_token}
-use Rattle.pv_meaning.specs.Rows.{bind_on, exhale_at}
-use Rattle.pv_meaning.specs.Judging.{contract_of}
-use Rattle.pv_meaning.specs.Tasks.{AtAction, Task, Stand}
-use Rattle.pv_meaning.specs.Frames.{Frame, pops, settled, entered, only_now, outer_scene}
-use Rattle.pv_meaning.specs.Worlds.{RunOf, ThreadState, World, Mode, with_frames, with_thread, with_state, has_no_frame, is_held_back}
-use Rattle.pv_meaning.specs.Steps.{Result, needs, not_null, act_fork, act_tasks, act_frames, act}
-use Rattle.meaning_laws.proofs.Sames.{naturals_same, resources_same}
+use Rattle.pv_picks.specs.declared.check.Check.TheVariants as check
+use Rattle.pv_picks.specs.Plain.Core.{Method, Fork, Program}
+use Rattle.pv_picks.specs.Plain.Members.{run_of}
+use Rattle.pv_picks.specs.Formulas.Heaps.{at_number}
+use Rattle.pv_picks.specs.Formulas.Meeting.{AllMet, unmet, found_met}
+use Rattle.pv_picks.specs.Judge.States as states
+use Rattle.pv_picks.specs.Judge.States.{Resource, OfToken, OfLock, same_token, same_resource}
+use Rattle.pv_picks.specs.Judge.Permissions.{add_token}
+use Rattle.pv_picks.specs.Judge.Rows.{bind_on, exhale_at}
+use Rattle.pv_picks.specs.Judge.Judging.{contract_of}
+use Rattle.pv_picks.specs.Machine.Tasks.{AtAction, Task, Stand}
+use Rattle.pv_picks.specs.Machine.Frames.{Frame, pops, settled, entered, only_now, outer_scene}
+use Rattle.pv_picks.specs.Machine.Worlds.{RunOf, ThreadState, World, Mode, with_frames, with_thread, with_state, has_no_frame, is_held_back}
+use Rattle.pv_picks.specs.Machine.Steps.{Result, needs, not_null, act_fork, act_tasks, act_frames, act}
+use Rattle.pv_picks.proofs.Sames.{naturals_same, resources_same}
 use Rattle.account_formulas.specs.Runs.{truly, RestNeverFails}
 use Rattle.account_formulas.specs.Owning.{IsPlaced, Owns, KeepsOwning}
 use Rattle.account_formulas.specs.Growing.{HeapFits}
@@ -35,12 +35,12 @@ use Rattle.account.specs.Verified.{IsVerifiedThroughout}
 use Rattle.account.specs.Going.{Begins}
 use Rattle.account.specs.Scoped.{TasksSay}
 use Rattle.account.proofs.Beginning.{begins}
-use Rattle.typed_programs.specs.Blocks.{types_of, over}
-use Rattle.typed_programs.specs.Expressions.{silent}
-use Rattle.typed_programs.specs.Frames.{HasType}
+use Rattle.pv_picks.specs.Typing.Blocks.{types_of, over}
+use Rattle.pv_picks.specs.Typing.Expressions.{silent}
+use Rattle.pv_picks.specs.Typing.Frames.{HasType}
 use Rattle.pv_ast.specs.declared.PvType.TheVariants.{Object}
 use Rattle.pv_values.specs.declared.value.Value.TheVariants as value
-use Rattle.typing_laws.specs.Formulas.{in_class}
+use Rattle.core_trees.specs.Formulas.{in_class}
 use Rattle.account_formulas.specs.Good.{IsGood}
 use Rattle.account_formulas.specs.Gaining.{AreTyped}
 use Rattle.account_formulas.specs.Sights.{SceneFits}
@@ -50,7 +50,7 @@ use Rattle.account.proofs.LocalWork.{settled_goes}
 use Rattle.account.proofs.Sums.{below_other, at_same, runs_in_total, total_with_runs}
 use Rattle.account.proofs.Stepping.{is_not_null}
 use Rattle.account_threads.specs.Parts.{RunsFit}
-use Rattle.account_threads.proofs.Locks.{locks_less, owns_locked}
+use Rattle.account.proofs.Locks.{locks_less, owns_locked}
 use Rattle.account_threads.proofs.OfObject.{by_test, object_scene}
 use Rattle.account_threads.proofs.Acting.{object_on, allowed, acts_on_class}
 use Rattle.account_threads.proofs.Forking.{ForkGoes, forks_go, run_stays}

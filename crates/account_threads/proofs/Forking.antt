@@ -9,26 +9,26 @@ use Rattle.pv_ast.specs.declared.PvType.TheVariants.{Object}
 use Rattle.pv_ast.specs.declared.Token.TheVariants as token
 use Rattle.pv_values.specs.declared.value.Value.TheVariants as value
 use Rattle.pv_fraction.specs.Amounts.{whole}
-use Rattle.pv_meaning.specs.declared.check.Check.TheVariants as check
-use Rattle.pv_meaning.specs.Core.{Method, Fork, Program}
-use Rattle.pv_meaning.specs.Values.{no_variables, with_arguments}
-use Rattle.pv_meaning.specs.Heaps.{Heap}
-use Rattle.pv_meaning.specs.Meeting.{IsMet}
-use Rattle.pv_meaning.specs.States as states
-use Rattle.pv_meaning.specs.States.{Resource, OfToken, State, cells_of, no_cells, empty_state, with_result, nothing_held}
-use Rattle.pv_meaning.specs.Settings.{null}
-use Rattle.pv_meaning.specs.Inhaling.{inhale}
-use Rattle.pv_meaning.specs.Permissions.{add_token}
-use Rattle.pv_meaning.specs.Rows.{bind_on, exhale_at, result_of}
-use Rattle.pv_meaning.specs.Judging.{finish, pick_variables, inhale_own, turn_of}
-use Rattle.pv_meaning.specs.Units.{OfMethod, go_on, through_body, of_method}
-use Rattle.pv_meaning.specs.Judge.{blocked}
-use Rattle.pv_meaning.specs.Tasks.{AtAction, Task, Stand}
-use Rattle.pv_meaning.specs.Frames.{Frame, pops, only_now, outer_scene}
-use Rattle.typed_programs.specs.Expressions.{silent}
-use Rattle.typed_programs.specs.Blocks.{types_of, over}
-use Rattle.typed_programs.specs.Frames.{HasType}
-use Rattle.typing_laws.specs.Formulas.{AreDeclared, in_class}
+use Rattle.pv_picks.specs.declared.check.Check.TheVariants as check
+use Rattle.pv_picks.specs.Plain.Core.{Method, Fork, Program}
+use Rattle.pv_picks.specs.Formulas.Values.{no_variables, with_arguments}
+use Rattle.pv_picks.specs.Formulas.Heaps.{Heap}
+use Rattle.pv_picks.specs.Formulas.Meeting.{IsMet}
+use Rattle.pv_picks.specs.Judge.States as states
+use Rattle.pv_picks.specs.Judge.States.{Resource, OfToken, State, cells_of, no_cells, empty_state, with_result, nothing_held}
+use Rattle.pv_picks.specs.Judge.Settings.{null}
+use Rattle.pv_picks.specs.Judge.Inhaling.{inhale}
+use Rattle.pv_picks.specs.Judge.Permissions.{add_token}
+use Rattle.pv_picks.specs.Judge.Rows.{bind_on, exhale_at, result_of}
+use Rattle.pv_picks.specs.Judge.Judging.{finish, pick_variables, inhale_own, turn_of}
+use Rattle.pv_picks.specs.Judge.UnitRuns.{OfMethod, go_on, through_body, of_method}
+use Rattle.pv_picks.specs.Judge.Runs.{blocked}
+use Rattle.pv_picks.specs.Machine.Tasks.{AtAction, Task, Stand}
+use Rattle.pv_picks.specs.Machine.Frames.{Frame, pops, only_now, outer_scene}
+use Rattle.pv_picks.specs.Typing.Expressions.{silent}
+use Rattle.pv_picks.specs.Typing.Blocks.{types_of, over}
+use Rattle.pv_picks.specs.Typing.Frames.{HasType}
+use Rattle.core_trees.specs.Formulas.{AreDeclared, in_class}
 use Rattle.account_formulas.specs.Sights.{SceneFits}
 use Rattle.account_formulas.specs.Runs.{truly, RestNeverFails, contents_of}
 use Rattle.account_formulas.specs.Good.{IsGood}

@@ -3,10 +3,10 @@ use Rattle.std.proofs.Common.{◌≡◌, ℕ, Bool, List, ◌∷◌, ap, sym, su
 use Rattle.pv_base.specs.declared.Name.{Name}
 use Rattle.pv_base.specs.declared.Span.{Span}
 use Rattle.pv_ast.specs.declared.PvType.{PvType}
-use Rattle.pv_meaning.specs.Core.{Action, Barrier, Parameter, Program}
-use Rattle.pv_meaning.specs.Heaps.{Heap}
-use Rattle.pv_meaning.specs.Tasks.{AtClose, AtLeave, AtAction, Task, Stand}
-use Rattle.pv_meaning.specs.Frames.{Frame, pops, settled}
+use Rattle.pv_picks.specs.Plain.Core.{Action, Barrier, Parameter, Program}
+use Rattle.pv_picks.specs.Formulas.Heaps.{Heap}
+use Rattle.pv_picks.specs.Machine.Tasks.{AtClose, AtLeave, AtAction, Task, Stand}
+use Rattle.pv_picks.specs.Machine.Frames.{Frame, pops, settled}
 use Rattle.account_formulas.specs.Growing.{HeapFits}
 use Rattle.account_formulas.specs.Gaining.{PredicatesFit}
 use Rattle.account_formulas.proofs.Still.{settled_still}

@@ -4,12 +4,12 @@ use Rattle.std.specs.Prelude.{is_some}
 use Rattle.pv_base.specs.declared.Name.{Name}
 use Rattle.pv_ast.specs.declared.PvType.TheVariants.{Object}
 use Rattle.pv_values.specs.declared.value.Value.TheVariants as value
-use Rattle.pv_meaning.specs.Core.{Method, Program}
-use Rattle.pv_meaning.specs.States.{empty_state}
-use Rattle.pv_meaning.specs.Members.{run_of}
-use Rattle.typed_programs.specs.Expressions.{silent}
-use Rattle.typed_programs.specs.Blocks.{over}
-use Rattle.typing_laws.specs.Formulas.{FormulaFits, MethodSays, IsPlainRun, in_class}
+use Rattle.pv_picks.specs.Plain.Core.{Method, Program}
+use Rattle.pv_picks.specs.Judge.States.{empty_state}
+use Rattle.pv_picks.specs.Plain.Members.{run_of}
+use Rattle.pv_picks.specs.Typing.Expressions.{silent}
+use Rattle.pv_picks.specs.Typing.Blocks.{over}
+use Rattle.core_trees.specs.Formulas.{FormulaFits, MethodSays, IsPlainRun, in_class}
 use Rattle.account_formulas.specs.Gaining.{nothing_taken}
 use Rattle.account_formulas.proofs.Picking.{picking}
 use Rattle.account.specs.Verified.{IsVerifiedThroughout}

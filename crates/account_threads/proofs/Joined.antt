@@ -8,21 +8,21 @@ use Rattle.pv_ast.specs.declared.Token.{Token}
 use Rattle.pv_ast.specs.declared.Token.TheVariants as token
 use Rattle.pv_values.specs.Heaps.{same_name}
 use Rattle.pv_fraction.specs.Amounts.{whole}
-use Rattle.pv_meaning.specs.declared.check.Check.TheVariants as check
-use Rattle.pv_meaning.specs.Core.{Method, Join', Program}
-use Rattle.pv_meaning.specs.Members.{run_of}
-use Rattle.pv_meaning.specs.Heaps.{at_number}
-use Rattle.pv_meaning.specs.States as states
-use Rattle.pv_meaning.specs.States.{Resource, OfToken, OfLock, same_token, same_resource}
-use Rattle.pv_meaning.specs.Permissions.{add_token}
-use Rattle.pv_meaning.specs.Inhaling.{inhale}
-use Rattle.pv_meaning.specs.Rows.{bind_on}
-use Rattle.pv_meaning.specs.Judging.{contract_of}
-use Rattle.pv_meaning.specs.Tasks.{AtAction, Task, Stand}
-use Rattle.pv_meaning.specs.Frames.{Frame, pops, settled, only_now, outer_scene}
-use Rattle.pv_meaning.specs.Worlds.{ThreadState, World, Mode, with_frames, with_state, has_no_frame, is_held_back}
-use Rattle.pv_meaning.specs.Steps.{needs, act_join, act_tasks, act_frames, act}
-use Rattle.meaning_laws.proofs.Sames.{naturals_same, resources_same}
+use Rattle.pv_picks.specs.declared.check.Check.TheVariants as check
+use Rattle.pv_picks.specs.Plain.Core.{Method, Join', Program}
+use Rattle.pv_picks.specs.Plain.Members.{run_of}
+use Rattle.pv_picks.specs.Formulas.Heaps.{at_number}
+use Rattle.pv_picks.specs.Judge.States as states
+use Rattle.pv_picks.specs.Judge.States.{Resource, OfToken, OfLock, same_token, same_resource}
+use Rattle.pv_picks.specs.Judge.Permissions.{add_token}
+use Rattle.pv_picks.specs.Judge.Inhaling.{inhale}
+use Rattle.pv_picks.specs.Judge.Rows.{bind_on}
+use Rattle.pv_picks.specs.Judge.Judging.{contract_of}
+use Rattle.pv_picks.specs.Machine.Tasks.{AtAction, Task, Stand}
+use Rattle.pv_picks.specs.Machine.Frames.{Frame, pops, settled, only_now, outer_scene}
+use Rattle.pv_picks.specs.Machine.Worlds.{ThreadState, World, Mode, with_frames, with_state, has_no_frame, is_held_back}
+use Rattle.pv_picks.specs.Machine.Steps.{needs, act_join, act_tasks, act_frames, act}
+use Rattle.pv_picks.proofs.Sames.{naturals_same, resources_same}
 use Rattle.account_formulas.specs.Runs.{truly, RestNeverFails}
 use Rattle.account_formulas.specs.Owning.{IsPlaced, Owns, KeepsOwning}
 use Rattle.account_formulas.specs.Growing.{HeapFits}
@@ -39,7 +39,7 @@ use Rattle.account.proofs.LocalWork.{settled_goes}
 use Rattle.account.proofs.Sums.{part_of, runs_in_total, total_with_runs, total_with_promise}
 use Rattle.account.proofs.Stepping.{is_not_null}
 use Rattle.account_threads.specs.Parts.{RunsFit}
-use Rattle.account_threads.proofs.Locks.{locks_less, owns_locked}
+use Rattle.account.proofs.Locks.{locks_less, owns_locked}
 use Rattle.account_threads.proofs.OfObject.{by_test, keeps_itself}
 use Rattle.account_threads.proofs.Acting.{object_on, allowed, acts_on_class}
 use Rattle.account_threads.proofs.Joining.{JoinGoes, without_token, joins_go}

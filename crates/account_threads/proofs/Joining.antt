@@ -6,17 +6,17 @@ use Rattle.pv_base.specs.declared.Span.{Span}
 use Rattle.pv_ast.specs.declared.Token.{Token}
 use Rattle.pv_ast.specs.declared.Token.TheVariants as token
 use Rattle.pv_fraction.specs.Amounts.{whole}
-use Rattle.pv_meaning.specs.Core.{Formula, Join', Program}
-use Rattle.pv_meaning.specs.Heaps.{Heap}
-use Rattle.pv_meaning.specs.States as states
-use Rattle.pv_meaning.specs.States.{Resource, OfToken, State, with_amount}
-use Rattle.pv_meaning.specs.Permissions.{add_token}
-use Rattle.pv_meaning.specs.Inhaling.{inhale}
-use Rattle.pv_meaning.specs.Rows.{bind_on}
-use Rattle.pv_meaning.specs.Tasks.{AtAction, Task, Stand}
-use Rattle.pv_meaning.specs.Frames.{Frame, pops, only_now, outer_scene}
-use Rattle.typed_programs.specs.Expressions.{silent}
-use Rattle.typing_laws.specs.Formulas.{in_class}
+use Rattle.pv_picks.specs.Plain.Core.{Formula, Join', Program}
+use Rattle.pv_picks.specs.Formulas.Heaps.{Heap}
+use Rattle.pv_picks.specs.Judge.States as states
+use Rattle.pv_picks.specs.Judge.States.{Resource, OfToken, State, with_amount}
+use Rattle.pv_picks.specs.Judge.Permissions.{add_token}
+use Rattle.pv_picks.specs.Judge.Inhaling.{inhale}
+use Rattle.pv_picks.specs.Judge.Rows.{bind_on}
+use Rattle.pv_picks.specs.Machine.Tasks.{AtAction, Task, Stand}
+use Rattle.pv_picks.specs.Machine.Frames.{Frame, pops, only_now, outer_scene}
+use Rattle.pv_picks.specs.Typing.Expressions.{silent}
+use Rattle.core_trees.specs.Formulas.{in_class}
 use Rattle.account_formulas.specs.Runs.{truly, RestNeverFails}
 use Rattle.account_formulas.specs.Good.{IsGood}
 use Rattle.account_formulas.specs.Owning.{Amounts, Owns, HasTrees}

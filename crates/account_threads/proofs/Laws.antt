@@ -1,8 +1,8 @@
 -- The laws of this crate, as they are stated.
 use Rattle.std.proofs.Common.{◌∷◌, ap, ◌∙◌}
-use Rattle.pv_meaning.specs.Core.{Program}
-use Rattle.pv_meaning.specs.Worlds.{World}
-use Rattle.pv_meaning.specs.Safety.{IsReached}
+use Rattle.pv_picks.specs.Plain.Core.{Program}
+use Rattle.pv_picks.specs.Machine.Worlds.{World}
+use Rattle.pv_picks.specs.Machine.Safety.{IsReached}
 use Rattle.account_formulas.specs.Growing.{HeapFits}
 use Rattle.account_formulas.specs.Gaining.{PredicatesFit}
 use Rattle.account.specs.Verified.{IsVerifiedThroughout}

@@ -1,9 +1,9 @@
 -- A state with less of one resource fits the heap.
 use Rattle.std.proofs.Common.{◌≡◌, ℕ, zero, suc, ◌≤◌, Bool, true, false, if◌then◌else◌, Option, Some, None, refl, ap, sym, subst, ◌∙◌, arith}
 use Rattle.std.proofs.lemmas.Option.{none-some}
-use Rattle.pv_meaning.specs.Heaps.{Heap}
-use Rattle.pv_meaning.specs.States.{Resource, Holding, State, amount_of, amount_held, cell_held, holding, same_resource, with_amount}
-use Rattle.meaning_laws.proofs.Sames.{resources_same}
+use Rattle.pv_picks.specs.Formulas.Heaps.{Heap}
+use Rattle.pv_picks.specs.Judge.States.{Resource, Holding, State, amount_of, amount_held, cell_held, holding, same_resource, with_amount}
+use Rattle.pv_picks.proofs.Sames.{resources_same}
 use Rattle.account_formulas.specs.Runs.{Taken}
 use Rattle.account_formulas.specs.Growing.{IsHeld, StateFits}
 use Rattle.account_formulas.proofs.Basics.{less_at, same_self}

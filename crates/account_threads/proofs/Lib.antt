@@ -1,4 +1,3 @@
-pub mod Locks
 pub mod OfObject
 pub mod Acting
 pub mod Left

@@ -4,13 +4,13 @@ use Rattle.std.proofs.Common.{◌≡◌, ℕ, ◌+◌, ◌<◌, ℤ, Bool, true,
 use Rattle.std.specs.Prelude.{nat_eq}
 use Rattle.pv_base.specs.declared.Span.{Span}
 use Rattle.pv_values.specs.Heaps.{same_name}
-use Rattle.pv_meaning.specs.Core.{Barrier, Message, Program}
-use Rattle.pv_meaning.specs.Members.{run_of}
-use Rattle.pv_meaning.specs.Heaps.{Heap, at_number}
-use Rattle.pv_meaning.specs.Tasks.{AtClose, AtLeave, Task, Stand}
-use Rattle.pv_meaning.specs.Frames.{Frame, outer_scene}
-use Rattle.pv_meaning.specs.Worlds.{Role, Entry, RunOf, MemberOf, ThreadState, Thread, OpenBlock, has_no_frame}
-use Rattle.meaning_laws.proofs.Sames.{naturals_same}
+use Rattle.pv_picks.specs.Plain.Core.{Barrier, Message, Program}
+use Rattle.pv_picks.specs.Plain.Members.{run_of}
+use Rattle.pv_picks.specs.Formulas.Heaps.{Heap, at_number}
+use Rattle.pv_picks.specs.Machine.Tasks.{AtClose, AtLeave, Task, Stand}
+use Rattle.pv_picks.specs.Machine.Frames.{Frame, outer_scene}
+use Rattle.pv_picks.specs.Machine.Worlds.{Role, Entry, RunOf, MemberOf, ThreadState, Thread, OpenBlock, has_no_frame}
+use Rattle.pv_picks.proofs.Sames.{naturals_same}
 use Rattle.account_formulas.specs.Owning.{Amounts}
 use Rattle.account_formulas.specs.Still.{IsStill}
 use Rattle.account.specs.Frames as account

@@ -4,16 +4,16 @@ use Rattle.pv_base.specs.declared.Name.{Name}
 use Rattle.pv_ast.specs.declared.PvType.{PvType}
 use Rattle.pv_ast.specs.declared.PvType.TheVariants.{Object}
 use Rattle.pv_values.specs.declared.value.Value.TheVariants as value
-use Rattle.pv_meaning.specs.Core.{Formula, Method, Program}
-use Rattle.pv_meaning.specs.Members.{invariant_of, run_of}
-use Rattle.pv_meaning.specs.Heaps.{Heap}
-use Rattle.pv_meaning.specs.States.{State, no_cells, empty_state}
-use Rattle.pv_meaning.specs.Inhaling.{inhale}
-use Rattle.pv_meaning.specs.Frames.{outer_scene}
-use Rattle.pv_meaning.specs.Judging.{finish}
-use Rattle.typed_programs.specs.Expressions.{silent}
-use Rattle.typed_programs.specs.Frames.{HasType}
-use Rattle.typing_laws.specs.Formulas.{in_class}
+use Rattle.pv_picks.specs.Plain.Core.{Formula, Method, Program}
+use Rattle.pv_picks.specs.Plain.Members.{invariant_of, run_of}
+use Rattle.pv_picks.specs.Formulas.Heaps.{Heap}
+use Rattle.pv_picks.specs.Judge.States.{State, no_cells, empty_state}
+use Rattle.pv_picks.specs.Judge.Inhaling.{inhale}
+use Rattle.pv_picks.specs.Machine.Frames.{outer_scene}
+use Rattle.pv_picks.specs.Judge.Judging.{finish}
+use Rattle.pv_picks.specs.Typing.Expressions.{silent}
+use Rattle.pv_picks.specs.Typing.Frames.{HasType}
+use Rattle.core_trees.specs.Formulas.{in_class}
 use Rattle.account_formulas.specs.Runs.{truly, RestNeverFails}
 use Rattle.account_formulas.specs.Good.{IsGood}
 use Rattle.account_formulas.specs.Growing.{AllBelow}

@@ -2,11 +2,11 @@
 use Rattle.std.specs.Prelude.{◌≡◌, ℕ, List, [], ◌∷◌}
 use Rattle.pv_base.specs.declared.Name.{Name}
 use Rattle.pv_base.specs.declared.Span.{Span}
-use Rattle.pv_meaning.specs.Core.{Action, Fork, Join', Lock, Unlock, Commit, Program}
-use Rattle.pv_meaning.specs.Heaps.{Heap}
-use Rattle.pv_meaning.specs.Tasks.{AtAction, Task, Stand}
-use Rattle.pv_meaning.specs.Frames.{Frame}
-use Rattle.pv_meaning.specs.Worlds.{Role, RunOf}
+use Rattle.pv_picks.specs.Plain.Core.{Action, Fork, Join', Lock, Unlock, Commit, Program}
+use Rattle.pv_picks.specs.Formulas.Heaps.{Heap}
+use Rattle.pv_picks.specs.Machine.Tasks.{AtAction, Task, Stand}
+use Rattle.pv_picks.specs.Machine.Frames.{Frame}
+use Rattle.pv_picks.specs.Machine.Worlds.{Role, RunOf}
 use Rattle.account_formulas.specs.Growing.{HeapFits}
 use Rattle.account.specs.Verified.{IsVerifiedThroughout}
 use Rattle.account.specs.Labels.{KeepsTheAccount}

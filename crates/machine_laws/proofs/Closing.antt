@@ -2,10 +2,10 @@
 use Rattle.std.proofs.Common.{Bool, true, false, Some, None, List, [], ◌∷◌, refl}
 use Rattle.std.specs.Prelude.{if◌then◌else◌}
 use Rattle.pv_base.specs.declared.Span.{Span}
-use Rattle.pv_meaning.specs.declared.check.Check.TheVariants as check
-use Rattle.pv_meaning.specs.Core.{Expression, Constant, This, Result, Variable, Field, Element, Length, Not, Compute, Compare, Equal, And, Or, Implies, Old, Target, Nowhere, ToVariable, ToField, ToElement, Right, Value', Call, NewObject, NewArray, Statement, Assign, If, While, Members, Meet, Act, Fold, Unfold, Assert, Send, Receive, Return, Stop, Then}
-use Rattle.pv_meaning.specs.Tasks.{AtHead, Task, Evaluate, EvaluateAll, Combine, Choose, Branch, Turn, Loop, Put, Drop, Give, Unfolded, Run, Stand, Resume, put_into, tasks_of_expression, tasks_of_target, tasks_of_right, tasks_of_statement}
-use Rattle.pv_meaning.specs.Frames.{Frame, is_true, evaluated, worked}
+use Rattle.pv_picks.specs.declared.check.Check.TheVariants as check
+use Rattle.pv_picks.specs.Plain.Core.{Expression, Constant, This, Result, Variable, Field, Element, Length, Not, Compute, Compare, Equal, And, Or, Implies, Old, Target, Nowhere, ToVariable, ToField, ToElement, Right, Value', Call, NewObject, NewArray, Statement, Assign, If, While, Members, Meet, Act, Fold, Unfold, Assert, Send, Receive, Return, Stop, Then}
+use Rattle.pv_picks.specs.Machine.Tasks.{AtHead, Task, Evaluate, EvaluateAll, Combine, Choose, Branch, Turn, Loop, Put, Drop, Give, Unfolded, Run, Stand, Resume, put_into, tasks_of_expression, tasks_of_target, tasks_of_right, tasks_of_statement}
+use Rattle.pv_picks.specs.Machine.Frames.{Frame, is_true, evaluated, worked}
 use Rattle.machine_laws.specs.Closing.{CloseNothing, WorkClosesNothing}
 use Rattle.machine_laws.proofs.Work.{settled-keeps}
 

@@ -6,12 +6,12 @@ use Rattle.pv_base.specs.declared.Name.{Name}
 use Rattle.pv_values.specs.declared.value.Value.{Value}
 use Rattle.pv_values.specs.declared.value.Location.{Location}
 use Rattle.pv_values.specs.Heaps.{Fields}
-use Rattle.pv_meaning.specs.Core.{Team, Block}
-use Rattle.pv_meaning.specs.Values.{width}
-use Rattle.pv_meaning.specs.Heaps.{Heap, at_number, written, with_object, with_array}
-use Rattle.pv_meaning.specs.Frames.{Frame}
-use Rattle.pv_meaning.specs.Worlds.{Thread, Mode, OpenBlock, World, is_member, with_frames, with_heap, with_thread, with_message, with_members}
-use Rattle.pv_meaning.specs.Steps.{all_behind}
+use Rattle.pv_picks.specs.Plain.Core.{Team, Block}
+use Rattle.pv_picks.specs.Formulas.Values.{width}
+use Rattle.pv_picks.specs.Formulas.Heaps.{Heap, at_number, written, with_object, with_array}
+use Rattle.pv_picks.specs.Machine.Frames.{Frame}
+use Rattle.pv_picks.specs.Machine.Worlds.{Thread, Mode, OpenBlock, World, is_member, with_frames, with_heap, with_thread, with_message, with_members}
+use Rattle.pv_picks.specs.Machine.Steps.{all_behind}
 use Rattle.machine_laws.specs.Growth.{IsSameBlock, HeapGrows, Grows}
 
 pub same_self : (b : OpenBlock) → IsSameBlock b b
@@ -74,12 +74,18 @@ kept_role n t f h j = go (nat_eq j n) refl
     go true e = let s : j ≡ n = eqb-true j n e in rw e (h ∙ ap (λ (k : ℕ). (f k).role) (sym s))
     go false e = rw e refl
 
-kept_block : (n : ℕ) (x : OpenBlock) (f : ℕ → OpenBlock) → IsSameBlock (f n) x → (b : ℕ) → IsSameBlock (f b) (at_number n x f b)
+-- one block is exchanged for the same
+pub kept_block : (n : ℕ) (x : OpenBlock) (f : ℕ → OpenBlock) → IsSameBlock (f n) x → (b : ℕ)
+    → IsSameBlock (f b) (at_number n x f b)
 kept_block n x f h b = go (nat_eq b n) refl
   where
     go : (t : Bool) → nat_eq b n ≡ t → IsSameBlock (f b) (at_number n x f b)
     go true e = let s : b ≡ n = eqb-true b n e in rw e (subst (λ (k : ℕ). IsSameBlock (f k) x) (sym s) h)
     go false e = rw e (same_self (f b))
+
+-- other frames leave each thread its role
+pub same_role : (w : World) (i : ℕ) (frames : List Frame) (j : ℕ) → ((with_frames w i frames).threads j).role ≡ (w.threads j).role
+same_role w i frames j = kept_role i (record { role = (w.threads i).role; frames = frames }) w.threads refl j
 
 pub frames_lead : (w : World) (i : ℕ) (frames : List Frame) → Grows w (with_frames w i frames)
 frames_lead w i frames = record {

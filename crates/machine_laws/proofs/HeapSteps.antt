@@ -7,29 +7,33 @@ use Rattle.pv_ast.specs.declared.PvType.{PvType}
 use Rattle.pv_values.specs.declared.value.Value.{Value}
 use Rattle.pv_values.specs.declared.value.Location.{Location}
 use Rattle.pv_values.specs.Changes.{owner_of}
-use Rattle.pv_meaning.specs.declared.check.Check.{Check}
-use Rattle.pv_meaning.specs.declared.check.Check.TheVariants as check
-use Rattle.pv_meaning.specs.Core.{Formula, Action, Fork, Join', Lock, Unlock, Commit, Message, Barrier, Team, Block, Predicate, Method, Program}
-use Rattle.pv_meaning.specs.Members.{predicate_named, method_named, run_of, invariant_of}
-use Rattle.pv_meaning.specs.Values.{number_in, reference_in}
-use Rattle.pv_meaning.specs.Tasks.{Spot, Step, AtRead, AtWrite, AtLength, AtNewObject, AtNewArray, AtAssert, AtFold, AtHead, AtCall, AtAction, AtOpen, AtClose, AtArrive, AtLeave, AtSend, AtReceive, Task, Evaluate, EvaluateAll, Combine, Choose, Branch, Turn, Put, Drop, Give, Unfolded, Run, Stand, Resume}
-use Rattle.pv_meaning.specs.Frames.{Frame, top, second, topmost, location_on, object_under, breadth, goes_on, pops, sight_of, body_scene, contract_scene}
-use Rattle.pv_meaning.specs.Meeting.{Finding, AllMet, FirstUnmet, unmet, unmet_shared}
-use Rattle.pv_meaning.specs.Labels.{Label}
-use Rattle.pv_meaning.specs.Worlds.{Role, Entry, RunOf, MemberOf, Mode, Free, OpenBlock, ThreadState, World, next, label_of_step, label_of_action, label_of_end, label_of_frame, label_of_frames, position_of, members_ended, with_frames, with_holder, with_committed_object, with_message, with_members, is_held_back}
-use Rattle.pv_meaning.specs.Steps.{Result, not_null, is_met_on, called, forked, keeps_invariant, is_own, act_open, act_arrive, act_leave, all_leave, all_behind, ended, needs, needs_met, waits_unless, goes, read, write, act_length, act_new_array, act_fold, act_call, act_fork, act_join, act_lock, act_unlock, act_commit, act_on, Partner, Somebody, Nobody, receiver_of, sender_of, is_declared, act_send, act_receive, as_member, act_step, act_end, returned, act_tasks, act_frames, act}
+use Rattle.pv_picks.specs.declared.check.Check.{Check}
+use Rattle.pv_picks.specs.declared.check.Check.TheVariants as check
+use Rattle.pv_picks.specs.Plain.Core.{Formula, Action, Fork, Join', Lock, Unlock, Commit, Message, Barrier, Team, Block, Predicate, Method, Program}
+use Rattle.pv_picks.specs.Plain.Members.{predicate_named, method_named, run_of, invariant_of}
+use Rattle.pv_picks.specs.Formulas.Values.{number_in, reference_in}
+use Rattle.pv_picks.specs.Machine.Tasks.{Spot, Step, AtRead, AtWrite, AtLength, AtNewObject, AtNewArray, AtAssert, AtFold, AtHead, AtCall, AtAction, AtOpen, AtClose, AtArrive, AtLeave, AtSend, AtReceive, Task, Evaluate, EvaluateAll, Combine, Choose, Branch, Turn, Put, Drop, Give, Unfolded, Run, Stand, Resume}
+use Rattle.pv_picks.specs.Machine.Frames.{Frame, top, second, topmost, location_on, object_under, breadth, goes_on, pops, sight_of, body_scene, contract_scene}
+use Rattle.pv_picks.specs.Formulas.Meeting.{Finding, AllMet, FirstUnmet, unmet, unmet_shared}
+use Rattle.pv_picks.specs.Machine.Labels.{Label}
+use Rattle.pv_picks.specs.Machine.Worlds.{Role, Entry, RunOf, MemberOf, Mode, Free, OpenBlock, ThreadState, World, next, label_of_step, label_of_action, label_of_end, label_of_frame, label_of_frames, position_of, members_ended, with_frames, with_holder, with_committed_object, with_message, with_members, is_held_back}
+use Rattle.pv_picks.specs.Machine.Steps.{Result, not_null, is_met_on, called, forked, keeps_invariant, is_own, act_open, act_arrive, act_leave, all_leave, all_behind, ended, needs, needs_met, waits_unless, goes, read, write, act_length, act_new_array, act_fold, act_call, act_fork, act_join, act_lock, act_unlock, act_commit, act_on, Partner, Somebody, Nobody, receiver_of, sender_of, is_declared, act_send, act_receive, as_member, act_step, act_end, returned, act_tasks, act_frames, act}
 use Rattle.machine_laws.specs.HeapSteps.{heap_after, Finds, IsHeapStep, WhereItGoes}
 
-needs_goes : (P : World → Type 0) (b : Bool) (named : Check) (span : Span) (r : Result) → WhereItGoes P r
+-- what is so where a result goes is so behind a test,
+pub needs_goes : (P : World → Type 0) (b : Bool) (named : Check) (span : Span) (r : Result) → WhereItGoes P r
     → WhereItGoes P (needs b named span r)
 needs_goes P true named span r h = h
 needs_goes P false named span r h = tt
 
-met_goes : (P : World → Type 0) (u : Finding) (named : Check) (r : Result) → WhereItGoes P r → WhereItGoes P (needs_met u named r)
+-- behind a formula,
+pub met_goes : (P : World → Type 0) (u : Finding) (named : Check) (r : Result) → WhereItGoes P r
+    → WhereItGoes P (needs_met u named r)
 met_goes P AllMet named r h = h
 met_goes P (FirstUnmet span) named r h = tt
 
-waits_goes : (P : World → Type 0) (b : Bool) (r : Result) → WhereItGoes P r → WhereItGoes P (waits_unless b r)
+-- and behind a wait
+pub waits_goes : (P : World → Type 0) (b : Bool) (r : Result) → WhereItGoes P r → WhereItGoes P (waits_unless b r)
 waits_goes P true r h = h
 waits_goes P false r h = tt
 

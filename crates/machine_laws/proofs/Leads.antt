@@ -6,20 +6,20 @@ use Rattle.pv_base.specs.declared.Span.{Span}
 use Rattle.pv_ast.specs.declared.PvType.{PvType}
 use Rattle.pv_values.specs.declared.value.Value.{Value}
 use Rattle.pv_values.specs.declared.value.Location.{Location}
-use Rattle.pv_meaning.specs.declared.check.Check.{Check}
-use Rattle.pv_meaning.specs.Core.{Formula, Action, Fork, Join', Lock, Unlock, Commit, Message, Barrier, Team, Block, Predicate, Method, Program}
-use Rattle.pv_meaning.specs.Members.{predicate_named, method_named, run_of, invariant_of}
-use Rattle.pv_meaning.specs.Values.{number_in, reference_in, default_of}
-use Rattle.pv_meaning.specs.Tasks.{Spot, Step, AtRead, AtWrite, AtLength, AtNewObject, AtNewArray, AtAssert, AtFold, AtHead, AtCall, AtAction, AtOpen, AtClose, AtArrive, AtLeave, AtSend, AtReceive, Task, Evaluate, EvaluateAll, Combine, Choose, Branch, Turn, Put, Drop, Give, Unfolded, Run, Stand, Resume}
-use Rattle.pv_meaning.specs.Frames.{Frame, top, second, topmost, location_on, object_under, breadth, goes_on, pops, pushes, settled, entered, sight_of, body_scene, contract_scene}
-use Rattle.pv_meaning.specs.Heaps.{at_number, written, with_object, with_array}
-use Rattle.pv_meaning.specs.Meeting.{Finding, AllMet, FirstUnmet, unmet, unmet_shared}
-use Rattle.pv_meaning.specs.declared.check.Check.TheVariants as check
+use Rattle.pv_picks.specs.declared.check.Check.{Check}
+use Rattle.pv_picks.specs.Plain.Core.{Formula, Action, Fork, Join', Lock, Unlock, Commit, Message, Barrier, Team, Block, Predicate, Method, Program}
+use Rattle.pv_picks.specs.Plain.Members.{predicate_named, method_named, run_of, invariant_of}
+use Rattle.pv_picks.specs.Formulas.Values.{number_in, reference_in, default_of}
+use Rattle.pv_picks.specs.Machine.Tasks.{Spot, Step, AtRead, AtWrite, AtLength, AtNewObject, AtNewArray, AtAssert, AtFold, AtHead, AtCall, AtAction, AtOpen, AtClose, AtArrive, AtLeave, AtSend, AtReceive, Task, Evaluate, EvaluateAll, Combine, Choose, Branch, Turn, Put, Drop, Give, Unfolded, Run, Stand, Resume}
+use Rattle.pv_picks.specs.Machine.Frames.{Frame, top, second, topmost, location_on, object_under, breadth, goes_on, pops, pushes, settled, entered, sight_of, body_scene, contract_scene}
+use Rattle.pv_picks.specs.Formulas.Heaps.{at_number, written, with_object, with_array}
+use Rattle.pv_picks.specs.Formulas.Meeting.{Finding, AllMet, FirstUnmet, unmet, unmet_shared}
+use Rattle.pv_picks.specs.declared.check.Check.TheVariants as check
 use Rattle.pv_values.specs.declared.value.Value.TheVariants as value
 use Rattle.pv_values.specs.Changes.{owner_of}
-use Rattle.pv_meaning.specs.Worlds.{Role, Entry, RunOf, MemberOf, Thread, Mode, Free, OpenBlock, ThreadState, World, members_ended, with_frames, with_holder, with_committed_object, with_message, with_members, is_held_back}
-use Rattle.pv_meaning.specs.Steps.{Result, first_fields, not_null, is_met_on, called, forked, keeps_invariant, is_own, act_new_object, act_open, act_arrive, act_leave, all_leave, all_behind, ended, needs, needs_met, waits_unless, goes, read, write, act_length, act_new_array, act_fold, act_call, act_fork, act_join, act_lock, act_unlock, act_commit, act_on, Partner, Somebody, Nobody, receiver_of, sender_of, is_declared, act_send, act_receive, as_member, act_step, act_end, returned, act_tasks, act_frames, act}
-use Rattle.pv_meaning.specs.Safety.{Event, world_after, happens, run_events}
+use Rattle.pv_picks.specs.Machine.Worlds.{Role, Entry, RunOf, MemberOf, Thread, Mode, Free, OpenBlock, ThreadState, World, members_ended, with_frames, with_holder, with_committed_object, with_message, with_members, is_held_back}
+use Rattle.pv_picks.specs.Machine.Steps.{Result, first_fields, not_null, is_met_on, called, forked, keeps_invariant, is_own, act_new_object, act_open, act_arrive, act_leave, all_leave, all_behind, ended, needs, needs_met, waits_unless, goes, read, write, act_length, act_new_array, act_fold, act_call, act_fork, act_join, act_lock, act_unlock, act_commit, act_on, Partner, Somebody, Nobody, receiver_of, sender_of, is_declared, act_send, act_receive, as_member, act_step, act_end, returned, act_tasks, act_frames, act}
+use Rattle.pv_picks.specs.Machine.Safety.{Event, world_after, happens, run_events}
 use Rattle.machine_laws.specs.Growth.{Grows, LeadsOn}
 use Rattle.machine_laws.proofs.Growth.{grows_self, grows_trans, frames_lead, heap_leads, thread_leads, message_leads, members_lead, behind_leads, written_grows, object_grows, array_grows}
 

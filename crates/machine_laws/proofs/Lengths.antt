@@ -11,14 +11,14 @@ use Rattle.pv_values.specs.declared.thing.Thing.{Thing}
 use Rattle.pv_values.specs.declared.thing.Thing.TheVariants as thing
 use Rattle.pv_values.specs.Heaps.{Things, thing_at, element_in, length_in, same_location}
 use Rattle.pv_values.specs.Changes.{element_of_all}
-use Rattle.pv_meaning.specs.Core.{Program}
-use Rattle.pv_meaning.specs.Values.{default_of}
-use Rattle.pv_meaning.specs.Heaps.{Heap, heap_of, written, with_object, with_array}
-use Rattle.pv_meaning.specs.Labels.{Label}
-use Rattle.pv_meaning.specs.Starts.{first_world}
-use Rattle.pv_meaning.specs.Worlds.{World, next}
-use Rattle.pv_meaning.specs.Steps.{Result, first_fields, act}
-use Rattle.pv_meaning.specs.Safety.{Event, IsReached, world_after, happens, run_events}
+use Rattle.pv_picks.specs.Plain.Core.{Program}
+use Rattle.pv_picks.specs.Formulas.Values.{default_of}
+use Rattle.pv_picks.specs.Formulas.Heaps.{Heap, heap_of, written, with_object, with_array}
+use Rattle.pv_picks.specs.Machine.Labels.{Label}
+use Rattle.pv_picks.specs.Machine.Starts.{first_world}
+use Rattle.pv_picks.specs.Machine.Worlds.{World, next}
+use Rattle.pv_picks.specs.Machine.Steps.{Result, first_fields, act}
+use Rattle.pv_picks.specs.Machine.Safety.{Event, IsReached, world_after, happens, run_events}
 use Rattle.machine_laws.specs.HeapSteps.{heap_after, Finds, IsHeapStep}
 use Rattle.machine_laws.specs.Lengths.{is_index, HasItsElements}
 use Rattle.machine_laws.proofs.HeapSteps.{act-does}

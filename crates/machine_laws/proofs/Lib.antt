@@ -9,3 +9,13 @@ pub mod HeapSteps
 pub mod Typed
 pub mod Lengths
 pub mod Closing
+pub mod Changes
+pub mod Members
+pub mod Counting
+pub mod Fresh
+pub mod Kept
+pub mod Labels
+pub mod Local
+pub mod Reached
+pub mod Statements
+pub mod TypedSteps

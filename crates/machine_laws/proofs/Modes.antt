@@ -1,15 +1,15 @@
 -- The mode says into which world a step leads, and nothing of whether it goes.
 use Rattle.std.proofs.Common.{◌≡◌, ℕ, Bool, true, false, List, [], ◌∷◌, refl}
 use Rattle.std.specs.Prelude.{not}
-use Rattle.pv_meaning.specs.declared.check.Check.{Check}
-use Rattle.pv_meaning.specs.Core.{Program}
-use Rattle.pv_meaning.specs.Tasks.{Step, AtRead, AtWrite, AtLength, AtNewObject, AtNewArray, AtAssert, AtFold, AtHead, AtCall, AtAction, AtOpen, AtClose, AtArrive, AtLeave, AtSend, AtReceive, Task, Evaluate, EvaluateAll, Combine, Choose, Branch, Turn, Put, Drop, Give, Unfolded, Run, Stand, Resume}
-use Rattle.pv_meaning.specs.Frames.{Frame, sight_of, body_scene, second, top}
-use Rattle.pv_meaning.specs.Values.{number_in}
-use Rattle.pv_meaning.specs.Meeting.{Finding, AllMet, FirstUnmet, unmet_shared}
-use Rattle.pv_meaning.specs.Worlds.{Mode, Free, World, is_held_back}
-use Rattle.pv_meaning.specs.Steps.{Result, needs_met, waits_unless, act_step, act_tasks, act_frames, act}
-use Rattle.pv_meaning.specs.Safety.{Event, is_able, may_step, world_after, happens}
+use Rattle.pv_picks.specs.declared.check.Check.{Check}
+use Rattle.pv_picks.specs.Plain.Core.{Program}
+use Rattle.pv_picks.specs.Machine.Tasks.{Step, AtRead, AtWrite, AtLength, AtNewObject, AtNewArray, AtAssert, AtFold, AtHead, AtCall, AtAction, AtOpen, AtClose, AtArrive, AtLeave, AtSend, AtReceive, Task, Evaluate, EvaluateAll, Combine, Choose, Branch, Turn, Put, Drop, Give, Unfolded, Run, Stand, Resume}
+use Rattle.pv_picks.specs.Machine.Frames.{Frame, sight_of, body_scene, second, top}
+use Rattle.pv_picks.specs.Formulas.Values.{number_in}
+use Rattle.pv_picks.specs.Formulas.Meeting.{Finding, AllMet, FirstUnmet, unmet_shared}
+use Rattle.pv_picks.specs.Machine.Worlds.{Mode, Free, World, is_held_back}
+use Rattle.pv_picks.specs.Machine.Steps.{Result, needs_met, waits_unless, act_step, act_tasks, act_frames, act}
+use Rattle.pv_picks.specs.Machine.Safety.{Event, is_able, may_step, world_after, happens}
 use Rattle.machine_laws.specs.Shapes.{AreAlike}
 
 alike_self : (r : Result) → AreAlike r r

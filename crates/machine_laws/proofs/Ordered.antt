@@ -2,17 +2,17 @@
 use Rattle.std.proofs.Common.{◌≡◌, ℕ, zero, suc, ◌+◌, ◌-◌, ◌<◌, ◌≤◌, ℤ, pos, Bool, true, false, List, [], ◌∷◌, map, refl, sym, ap, subst, arith, ◌∙◌, ◌⊎◌, inl, inr}
 use Rattle.std.specs.Prelude.{not, nat_lt, ◌&&◌, if◌then◌else◌, ◌+ℤ◌}
 use Rattle.std.proofs.lemmas.Bool.{eq-eqb, le-leb, lt-ltb, ltb-true, ltb-false}
-use Rattle.pv_meaning.specs.declared.check.Check.{Check}
-use Rattle.pv_meaning.specs.declared.check.Check.TheVariants as check
-use Rattle.pv_meaning.specs.Core.{Team, Block, Program}
-use Rattle.pv_meaning.specs.Values.{number_in, width}
-use Rattle.pv_meaning.specs.Meeting.{Finding, AllMet, FirstUnmet, unmet_shared}
-use Rattle.pv_meaning.specs.Tasks.{AtOpen, AtClose, Task, Stand}
-use Rattle.pv_meaning.specs.Frames.{Frame, top, second, pops, sight_of, body_scene}
-use Rattle.pv_meaning.specs.Worlds.{Role, MemberOf, Mode, Free, Ordered, World, with_members, has_no_frame, has_ended, each_from, waits_in, waits_as, is_held_back}
-use Rattle.pv_meaning.specs.Steps.{Result, needs_met, waits_unless, goes, act_open, act_tasks, act_frames, act}
-use Rattle.pv_meaning.specs.Safety.{Event, world_after, happens, run_events}
-use Rattle.pv_meaning.specs.LoopRuns.{opens_loop, frames_at_loop, AreBetween, StandsAtLoop, IsLoopRun}
+use Rattle.pv_picks.specs.declared.check.Check.{Check}
+use Rattle.pv_picks.specs.declared.check.Check.TheVariants as check
+use Rattle.pv_picks.specs.Plain.Core.{Team, Block, Program}
+use Rattle.pv_picks.specs.Formulas.Values.{number_in, width}
+use Rattle.pv_picks.specs.Formulas.Meeting.{Finding, AllMet, FirstUnmet, unmet_shared}
+use Rattle.pv_picks.specs.Machine.Tasks.{AtOpen, AtClose, Task, Stand}
+use Rattle.pv_picks.specs.Machine.Frames.{Frame, top, second, pops, sight_of, body_scene}
+use Rattle.pv_picks.specs.Machine.Worlds.{Role, MemberOf, Mode, Free, Ordered, World, with_members, has_no_frame, has_ended, each_from, waits_in, waits_as, is_held_back}
+use Rattle.pv_picks.specs.Machine.Steps.{Result, needs_met, waits_unless, goes, act_open, act_tasks, act_frames, act}
+use Rattle.pv_picks.specs.Machine.Safety.{Event, world_after, happens, run_events}
+use Rattle.pv_picks.specs.Machine.LoopRuns.{opens_loop, frames_at_loop, AreBetween, StandsAtLoop, IsLoopRun}
 use Rattle.machine_laws.specs.Growth.{Grows}
 use Rattle.machine_laws.proofs.Leads.{act-leads, world_after-grows}
 

@@ -2,16 +2,16 @@
 use Rattle.std.proofs.Common.{◌≡◌, ℕ, Bool, true, false, Some, None, List, [], ◌∷◌, drop, refl}
 use Rattle.std.specs.Prelude.{◌&&◌, if◌then◌else◌, nat_eq, nat_le, nat_lt, ◌+◌, ◌-◌, ◌+ℤ◌, ℤ, pos}
 use Rattle.pv_base.specs.declared.Span.{Span}
-use Rattle.pv_meaning.specs.declared.check.Check.TheVariants as check
-use Rattle.pv_meaning.specs.Core.{Expression, Constant, This, Result, Variable, Field, Element, Length, Not, Compute, Compare, Equal, And, Or, Implies, Old, Target, Nowhere, ToVariable, ToField, ToElement, Right, Value', Call, NewObject, NewArray, Statement, Assign, If, While, Members, Meet, Act, Fold, Unfold, Assert, Send, Receive, Return, Team, Block, Stop, Then, Method}
+use Rattle.pv_picks.specs.declared.check.Check.TheVariants as check
+use Rattle.pv_picks.specs.Plain.Core.{Expression, Constant, This, Result, Variable, Field, Element, Length, Not, Compute, Compare, Equal, And, Or, Implies, Old, Target, Nowhere, ToVariable, ToField, ToElement, Right, Value', Call, NewObject, NewArray, Statement, Assign, If, While, Members, Meet, Act, Fold, Unfold, Assert, Send, Receive, Return, Team, Block, Stop, Then, Method}
 use Rattle.pv_values.specs.declared.value.Value.{Value}
 use Rattle.pv_base.specs.declared.Name.{Name}
-use Rattle.pv_meaning.specs.Heaps.{Heap, at_number}
-use Rattle.pv_meaning.specs.Values.{width, with_arguments, no_variables, at_position}
-use Rattle.pv_meaning.specs.Tasks.{Step, AtHead, Task, Evaluate, EvaluateAll, Combine, Choose, Branch, Turn, Put, Drop, Give, Unfolded, Run, Stand, Resume, put_into, tasks_of_target, tasks_of_right, tasks_of_statement}
-use Rattle.pv_meaning.specs.Frames.{Frame, is_true, goes_on, no_value, kept, evaluated, worked, settled, entered}
-use Rattle.pv_meaning.specs.Worlds.{Thread, Mode, OpenBlock, World, is_member, with_frames, with_thread, with_members, member_of, member_thread}
-use Rattle.pv_meaning.specs.Steps.{frames_behind, all_behind}
+use Rattle.pv_picks.specs.Formulas.Heaps.{Heap, at_number}
+use Rattle.pv_picks.specs.Formulas.Values.{width, with_arguments, no_variables, at_position}
+use Rattle.pv_picks.specs.Machine.Tasks.{Step, AtHead, Task, Evaluate, EvaluateAll, Combine, Choose, Branch, Turn, Put, Drop, Give, Unfolded, Run, Stand, Resume, put_into, tasks_of_target, tasks_of_right, tasks_of_statement}
+use Rattle.pv_picks.specs.Machine.Frames.{Frame, is_true, goes_on, no_value, kept, evaluated, worked, settled, entered}
+use Rattle.pv_picks.specs.Machine.Worlds.{Thread, Mode, OpenBlock, World, is_member, with_frames, with_thread, with_members, member_of, member_thread}
+use Rattle.pv_picks.specs.Machine.Steps.{frames_behind, all_behind}
 use Rattle.machine_laws.specs.Rest.{is_at_rest}
 use Rattle.machine_laws.specs.Standing.{are_free, await, all_await, is_standing, AreStanding}
 use Rattle.machine_laws.proofs.Work.{settled-rest, settled-keeps}

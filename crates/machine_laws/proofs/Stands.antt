@@ -6,22 +6,22 @@ use Rattle.pv_base.specs.declared.Span.{Span}
 use Rattle.pv_ast.specs.declared.PvType.{PvType}
 use Rattle.pv_values.specs.declared.value.Value.{Value}
 use Rattle.pv_values.specs.declared.value.Location.{Location}
-use Rattle.pv_meaning.specs.declared.check.Check.{Check}
-use Rattle.pv_meaning.specs.Core.{Formula, Action, Fork, Join', Lock, Unlock, Commit, Message, Barrier, Team, Block, Predicate, Method, Program}
-use Rattle.pv_meaning.specs.Members.{predicate_named, method_named, run_of, invariant_of}
-use Rattle.pv_meaning.specs.Values.{number_in, reference_in}
-use Rattle.pv_meaning.specs.Tasks.{Spot, Step, AtRead, AtWrite, AtLength, AtNewObject, AtNewArray, AtAssert, AtFold, AtHead, AtCall, AtAction, AtOpen, AtClose, AtArrive, AtLeave, AtSend, AtReceive, Task, Evaluate, EvaluateAll, Combine, Choose, Branch, Turn, Put, Drop, Give, Unfolded, Run, Stand, Resume}
-use Rattle.pv_meaning.specs.Frames.{Frame, top, second, topmost, location_on, object_under, breadth, goes_on, pops, pushes, settled, entered, sight_of, body_scene, contract_scene}
-use Rattle.pv_meaning.specs.Meeting.{Finding, AllMet, FirstUnmet, unmet, unmet_shared}
-use Rattle.pv_meaning.specs.declared.check.Check.TheVariants as check
+use Rattle.pv_picks.specs.declared.check.Check.{Check}
+use Rattle.pv_picks.specs.Plain.Core.{Formula, Action, Fork, Join', Lock, Unlock, Commit, Message, Barrier, Team, Block, Predicate, Method, Program}
+use Rattle.pv_picks.specs.Plain.Members.{predicate_named, method_named, run_of, invariant_of}
+use Rattle.pv_picks.specs.Formulas.Values.{number_in, reference_in}
+use Rattle.pv_picks.specs.Machine.Tasks.{Spot, Step, AtRead, AtWrite, AtLength, AtNewObject, AtNewArray, AtAssert, AtFold, AtHead, AtCall, AtAction, AtOpen, AtClose, AtArrive, AtLeave, AtSend, AtReceive, Task, Evaluate, EvaluateAll, Combine, Choose, Branch, Turn, Put, Drop, Give, Unfolded, Run, Stand, Resume}
+use Rattle.pv_picks.specs.Machine.Frames.{Frame, top, second, topmost, location_on, object_under, breadth, goes_on, pops, pushes, settled, entered, sight_of, body_scene, contract_scene}
+use Rattle.pv_picks.specs.Formulas.Meeting.{Finding, AllMet, FirstUnmet, unmet, unmet_shared}
+use Rattle.pv_picks.specs.declared.check.Check.TheVariants as check
 use Rattle.pv_values.specs.declared.value.Value.TheVariants as value
 use Rattle.pv_values.specs.Changes.{owner_of}
-use Rattle.pv_meaning.specs.Worlds.{Role, Entry, RunOf, MemberOf, Thread, Mode, Free, OpenBlock, ThreadState, World, members_ended, with_frames, with_holder, with_committed_object, with_message, with_members, is_held_back}
-use Rattle.pv_meaning.specs.Steps.{Result, not_null, is_met_on, called, forked, keeps_invariant, is_own, act_new_object, act_open, act_arrive, act_leave, all_leave, all_behind, ended, needs, needs_met, waits_unless, goes, read, write, act_length, act_new_array, act_fold, act_call, act_fork, act_join, act_lock, act_unlock, act_commit, act_on, Partner, Somebody, Nobody, receiver_of, sender_of, is_declared, act_send, act_receive, as_member, act_step, act_end, returned, act_tasks, act_frames, act}
-use Rattle.pv_meaning.specs.Safety.{Event, IsReached, world_after, happens, run_events}
-use Rattle.pv_meaning.specs.Heaps.{heap_of}
-use Rattle.pv_meaning.specs.Worlds.{has_no_frame, has_ended, label_of_frame, label_of_frames, next}
-use Rattle.pv_meaning.specs.Starts.{Start, frame_of_start, no_thread, first_world}
+use Rattle.pv_picks.specs.Machine.Worlds.{Role, Entry, RunOf, MemberOf, Thread, Mode, Free, OpenBlock, ThreadState, World, members_ended, with_frames, with_holder, with_committed_object, with_message, with_members, is_held_back}
+use Rattle.pv_picks.specs.Machine.Steps.{Result, not_null, is_met_on, called, forked, keeps_invariant, is_own, act_new_object, act_open, act_arrive, act_leave, all_leave, all_behind, ended, needs, needs_met, waits_unless, goes, read, write, act_length, act_new_array, act_fold, act_call, act_fork, act_join, act_lock, act_unlock, act_commit, act_on, Partner, Somebody, Nobody, receiver_of, sender_of, is_declared, act_send, act_receive, as_member, act_step, act_end, returned, act_tasks, act_frames, act}
+use Rattle.pv_picks.specs.Machine.Safety.{Event, IsReached, world_after, happens, run_events}
+use Rattle.pv_picks.specs.Formulas.Heaps.{heap_of}
+use Rattle.pv_picks.specs.Machine.Worlds.{has_no_frame, has_ended, label_of_frame, label_of_frames, next}
+use Rattle.pv_picks.specs.Machine.Starts.{Start, frame_of_start, no_thread, first_world}
 use Rattle.machine_laws.specs.Rest.{are_at_rest}
 use Rattle.machine_laws.specs.Standing.{are_free, all_await, is_standing, AreStanding}
 use Rattle.machine_laws.proofs.Standing.{put_stands, settled-stands, stands-free, awaits-two, awaited-free, entered-stands, frames_stand, thread_stands, members_stand, all_behind_stand}

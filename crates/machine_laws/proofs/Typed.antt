@@ -15,16 +15,16 @@ use Rattle.pv_values.specs.declared.thing.Thing.{Thing}
 use Rattle.pv_values.specs.Heaps.{Things, Fields, field_value, field_in, element_in, class_in, length_in, same_name, same_number, same_location}
 use Rattle.pv_values.specs.Typing as typing
 use Rattle.pv_values.specs.Typing.{Kind, numbers, truths, objects, int_arrays, truth_arrays, nulls, is_number, is_truth, Refers, IsWellTyped}
-use Rattle.pv_meaning.specs.Core.{Parameter, Program}
-use Rattle.pv_meaning.specs.Members.{first_that, type_in, fields_of}
-use Rattle.pv_meaning.specs.Values.{default_of}
-use Rattle.pv_meaning.specs.Heaps.{Heap, at_number, heap_of, written, with_object, with_array}
-use Rattle.pv_meaning.specs.Labels.{Label}
-use Rattle.pv_meaning.specs.Starts.{kind_of, field_kind}
-use Rattle.pv_meaning.specs.Worlds.{Mode, World, next}
-use Rattle.pv_meaning.specs.Steps.{Result, first_fields, act}
+use Rattle.pv_picks.specs.Plain.Core.{Parameter, Program}
+use Rattle.pv_picks.specs.Plain.Members.{first_that, type_in, fields_of}
+use Rattle.pv_picks.specs.Formulas.Values.{default_of}
+use Rattle.pv_picks.specs.Formulas.Heaps.{Heap, at_number, heap_of, written, with_object, with_array}
+use Rattle.pv_picks.specs.Machine.Labels.{Label}
+use Rattle.pv_picks.specs.Machine.Starts.{kind_of, field_kind}
+use Rattle.pv_picks.specs.Machine.Worlds.{Mode, World, next}
+use Rattle.pv_picks.specs.Machine.Steps.{Result, first_fields, act}
 use Rattle.machine_laws.specs.HeapSteps.{heap_after, Finds, IsHeapStep}
-use Rattle.machine_laws.specs.Typed.{HoldsOnly, IsArrayOf, HasKind, HasKindOf, IsUnused, IsTypedHeap, FitsAt, KeepsKinds}
+use Rattle.pv_picks.specs.Typing.Heaps.{HoldsOnly, IsArrayOf, HasKind, HasKindOf, IsUnused, IsTypedHeap, FitsAt, KeepsKinds}
 use Rattle.machine_laws.proofs.HeapSteps.{act-does}
 
 -- Lists of things and the heaps that they stand for.

@@ -2,11 +2,11 @@
 use Rattle.std.proofs.Common.{◌≡◌, ℕ, zero, suc, ◌+◌, ◌<◌, ◌≤◌, Bool, true, false, Some, None, List, [], ◌∷◌, refl, arith, ◌⊎◌, inl, inr}
 use Rattle.std.specs.Prelude.{if◌then◌else◌}
 use Rattle.pv_base.specs.declared.Span.{Span}
-use Rattle.pv_meaning.specs.declared.check.Check.TheVariants as check
-use Rattle.pv_meaning.specs.Core.{Expression, Constant, This, Result, Variable, Field, Element, Length, Not, Compute, Compare, Equal, And, Or, Implies, Old, Target, Nowhere, ToVariable, ToField, ToElement, Right, Value', Call, NewObject, NewArray, Statement, Assign, If, While, Members, Meet, Act, Fold, Unfold, Assert, Send, Receive, Return, Block, Stop, Then}
-use Rattle.pv_meaning.specs.Tasks.{Step, AtHead, Task, Evaluate, EvaluateAll, Combine, Choose, Branch, Turn, Put, Drop, Give, Unfolded, Run, Stand, Resume, put_into, tasks_of_target, tasks_of_right, tasks_of_statement}
-use Rattle.pv_meaning.specs.Measures.{size_of_expression, size_of_target, size_of_right, size_of_statement, size_of_block, size_of_task, size_of_tasks}
-use Rattle.pv_meaning.specs.Frames.{Frame, is_true, evaluated, worked, after_work, settled}
+use Rattle.pv_picks.specs.declared.check.Check.TheVariants as check
+use Rattle.pv_picks.specs.Plain.Core.{Expression, Constant, This, Result, Variable, Field, Element, Length, Not, Compute, Compare, Equal, And, Or, Implies, Old, Target, Nowhere, ToVariable, ToField, ToElement, Right, Value', Call, NewObject, NewArray, Statement, Assign, If, While, Members, Meet, Act, Fold, Unfold, Assert, Send, Receive, Return, Block, Stop, Then}
+use Rattle.pv_picks.specs.Machine.Tasks.{Step, AtHead, Task, Evaluate, EvaluateAll, Combine, Choose, Branch, Turn, Put, Drop, Give, Unfolded, Run, Stand, Resume, put_into, tasks_of_target, tasks_of_right, tasks_of_statement}
+use Rattle.pv_picks.specs.Machine.Measures.{size_of_expression, size_of_target, size_of_right, size_of_statement, size_of_block, size_of_task, size_of_tasks}
+use Rattle.pv_picks.specs.Machine.Frames.{Frame, is_true, evaluated, worked, after_work, settled}
 use Rattle.machine_laws.specs.Rest.{are_at_rest, is_at_rest}
 
 -- an expression leaves less than itself

@@ -1,9 +1,9 @@
 -- Tasks that close no block.
 use Rattle.std.specs.Prelude.{◌≡◌, Bool, true, false, List}
 use Rattle.std.specs.List.{AllByRecursion}
-use Rattle.pv_meaning.specs.Core.{Statement, Expression}
-use Rattle.pv_meaning.specs.Tasks.{AtClose, Task, Stand, tasks_of_expression, tasks_of_statement}
-use Rattle.pv_meaning.specs.Frames.{Frame, settled}
+use Rattle.pv_picks.specs.Plain.Core.{Statement, Expression}
+use Rattle.pv_picks.specs.Machine.Tasks.{AtClose, Task, Stand, tasks_of_expression, tasks_of_statement}
+use Rattle.pv_picks.specs.Machine.Frames.{Frame, settled}
 
 abbrev pub closes : Task → Bool
 closes (Stand (AtClose block)) = true

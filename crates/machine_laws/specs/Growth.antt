@@ -1,8 +1,8 @@
 -- What steps never take back: threads and blocks that are there, with what they are, and the things of the heap.
 use Rattle.std.specs.Prelude.{◌≡◌, ◌≤◌, ◌<◌, ℕ}
-use Rattle.pv_meaning.specs.Heaps.{Heap}
-use Rattle.pv_meaning.specs.Worlds.{OpenBlock, World}
-use Rattle.pv_meaning.specs.Steps.{Result}
+use Rattle.pv_picks.specs.Formulas.Heaps.{Heap}
+use Rattle.pv_picks.specs.Machine.Worlds.{OpenBlock, World}
+use Rattle.pv_picks.specs.Machine.Steps.{Result}
 
 -- all of a block but its messages
 pub record IsSameBlock (a b : OpenBlock) : Type 0 where

@@ -1,11 +1,11 @@
 -- What a step does to the heap, by the label at which its thread stood.
 use Rattle.std.specs.Prelude.{◌≡◌, pos, Option, Some, IsSome}
-use Rattle.pv_meaning.specs.Core.{Program}
-use Rattle.pv_meaning.specs.Values.{default_of}
-use Rattle.pv_meaning.specs.Heaps.{Heap, written, with_object, with_array}
-use Rattle.pv_meaning.specs.Labels.{Label}
-use Rattle.pv_meaning.specs.Worlds.{World}
-use Rattle.pv_meaning.specs.Steps.{Result, first_fields}
+use Rattle.pv_picks.specs.Plain.Core.{Program}
+use Rattle.pv_picks.specs.Formulas.Values.{default_of}
+use Rattle.pv_picks.specs.Formulas.Heaps.{Heap, written, with_object, with_array}
+use Rattle.pv_picks.specs.Machine.Labels.{Label}
+use Rattle.pv_picks.specs.Machine.Worlds.{World}
+use Rattle.pv_picks.specs.Machine.Steps.{Result, first_fields}
 
 -- a write, a new object and a new array change the heap, and nothing else does
 abbrev pub heap_after : Program → Option Label → Heap → Heap

@@ -1,7 +1,7 @@
 -- Arrays of a heap with their elements.
 use Rattle.std.specs.Prelude.{◌≡◌, ℕ, ℤ, pos, Bool, true, false, ◌&&◌, int_le, int_lt, is_some, Option, Some, None}
 use Rattle.pv_values.specs.declared.value.Location.TheVariants.{Cell}
-use Rattle.pv_meaning.specs.Heaps.{Heap}
+use Rattle.pv_picks.specs.Formulas.Heaps.{Heap}
 
 -- whether an index is one of an array of a length: from 0 to below it; what is no array has none
 abbrev pub is_index : Option ℤ → ℤ → Bool

@@ -3,6 +3,8 @@ pub mod Shapes
 pub mod Growth
 pub mod Standing
 pub mod HeapSteps
-pub mod Typed
 pub mod Lengths
 pub mod Closing
+pub mod Members
+pub mod Counting
+pub mod Fresh

@@ -1,7 +1,7 @@
 -- Frames in which no local work is left.
 use Rattle.std.specs.Prelude.{Bool, true, false, List, [], ◌∷◌}
-use Rattle.pv_meaning.specs.Tasks.{Task, Stand, Resume}
-use Rattle.pv_meaning.specs.Frames.{Frame}
+use Rattle.pv_picks.specs.Machine.Tasks.{Task, Stand, Resume}
+use Rattle.pv_picks.specs.Machine.Frames.{Frame}
 
 -- nothing is left, or a step or the end of a call comes first
 abbrev pub are_at_rest : List Task → Bool

@@ -1,6 +1,6 @@
 -- Results that differ in their worlds alone.
 use Rattle.std.specs.Prelude.{◌≡◌}
-use Rattle.pv_meaning.specs.Steps.{Result}
+use Rattle.pv_picks.specs.Machine.Steps.{Result}
 
 abbrev pub AreAlike : Result → Result → Type 0
 AreAlike (Result.Went v) (Result.Went w) = Unit {0}

@@ -1,8 +1,8 @@
 -- Threads that stand at a step, or have ended.
 use Rattle.std.specs.Prelude.{◌≡◌, ℕ, Bool, true, false, ◌&&◌, List, [], ◌∷◌}
-use Rattle.pv_meaning.specs.Tasks.{Task, Resume}
-use Rattle.pv_meaning.specs.Frames.{Frame}
-use Rattle.pv_meaning.specs.Worlds.{World}
+use Rattle.pv_picks.specs.Machine.Tasks.{Task, Resume}
+use Rattle.pv_picks.specs.Machine.Frames.{Frame}
+use Rattle.pv_picks.specs.Machine.Worlds.{World}
 use Rattle.machine_laws.specs.Rest.{is_at_rest}
 
 -- no task waits for a call

@@ -5,15 +5,15 @@ ghost use Rattle.std.specs.Prelude.{◌≡◌, ◌≤◌, ℕ, false, true, List
 ghost use Rattle.pv_base.specs.declared.Name.{Name};
 ghost use Rattle.pv_values.specs.Heaps.{Things};
 ghost use Rattle.pv_values.specs.Typing.{Kind, IsWellTyped};
-ghost use Rattle.pv_meaning.specs.Core.{Program};
-ghost use Rattle.pv_meaning.specs.Heaps.{heap_of};
-ghost use Rattle.pv_meaning.specs.Starts.{field_kind};
-ghost use Rattle.pv_meaning.specs.Frames.{Frame, after_work, settled};
-ghost use Rattle.pv_meaning.specs.Measures.{size_of_tasks};
-ghost use Rattle.pv_meaning.specs.Worlds.{Mode, Ordered, World, has_ended, next};
-ghost use Rattle.pv_meaning.specs.Steps.{Result, act};
-ghost use Rattle.pv_meaning.specs.Safety.{Event, IsReached, may_step, happens, run_events};
-ghost use Rattle.pv_meaning.specs.LoopRuns.{StandsAtLoop, IsLoopRun};
+ghost use Rattle.pv_picks.specs.Plain.Core.{Program};
+ghost use Rattle.pv_picks.specs.Formulas.Heaps.{heap_of};
+ghost use Rattle.pv_picks.specs.Machine.Starts.{field_kind};
+ghost use Rattle.pv_picks.specs.Machine.Frames.{Frame, after_work, settled};
+ghost use Rattle.pv_picks.specs.Machine.Measures.{size_of_tasks};
+ghost use Rattle.pv_picks.specs.Machine.Worlds.{Mode, Ordered, World, has_ended, next};
+ghost use Rattle.pv_picks.specs.Machine.Steps.{Result, act};
+ghost use Rattle.pv_picks.specs.Machine.Safety.{Event, IsReached, may_step, happens, run_events};
+ghost use Rattle.pv_picks.specs.Machine.LoopRuns.{StandsAtLoop, IsLoopRun};
 ghost use Rattle.machine_laws.specs.Growth.{Grows};
 ghost use Rattle.machine_laws.specs.Rest.{is_at_rest};
 ghost use Rattle.machine_laws.specs.Shapes.{AreAlike};
@@ -21,8 +21,22 @@ ghost use Rattle.machine_laws.specs.Standing.{AreStanding};
 ghost use Rattle.machine_laws.specs.HeapSteps.{IsHeapStep};
 ghost use Rattle.machine_laws.specs.Lengths.{HasItsElements};
 ghost use Rattle.pv_values.specs.declared.value.Value.{Value};
-ghost use Rattle.machine_laws.specs.Typed.{HasKindOf, IsTypedHeap, KeepsKinds};
+ghost use Rattle.pv_picks.specs.Typing.Heaps.{HasKindOf, IsTypedHeap, KeepsKinds};
 ghost use Rattle.machine_laws.specs.Closing.{WorkClosesNothing};
+ghost use Rattle.machine_laws.specs.Members.{BlocksHaveMembers};
+ghost use Rattle.std.specs.Prelude.{◌≡◌, ℕ};
+ghost use Rattle.pv_picks.specs.Formulas.Heaps.{Heap};
+ghost use Rattle.pv_picks.specs.Machine.Frames.{Frame, after_work};
+ghost use Rattle.pv_picks.specs.Machine.Starts.{Start, IsStart, field_kind, first_world};
+ghost use Rattle.pv_picks.specs.Machine.Safety.{IsReached};
+ghost use Rattle.pv_picks.specs.Machine.Worlds.{Mode, World, next};
+ghost use Rattle.pv_picks.specs.Typing.Blocks.{ProgramFits};
+ghost use Rattle.pv_picks.specs.Typing.Heaps.{IsTypedHeap, KeepsKinds};
+ghost use Rattle.pv_picks.specs.Typing.Expressions.{Home};
+ghost use Rattle.pv_picks.specs.Typing.Frames.{FrameFits};
+ghost use Rattle.pv_picks.specs.Typing.Worlds.{WorldFits};
+ghost use Rattle.machine_laws.specs.Counting.{program};
+ghost use Rattle.machine_laws.specs.Fresh.{BeyondIsFresh};
 
 /// Local work goes on up to a step, a call that isn't over, or the end of the body.
 pub fn work_ends_at_a_step()
@@ -96,4 +110,52 @@ pub fn reached_heaps_have_their_elements()
 /// No task that a statement or an expression is taken apart into closes a block, and local work makes none that does.
 pub fn work_closes_no_block()
     ensures { WorkClosesNothing }
+{}
+
+/// In a reached world the threads of an opened block's numbers are its members, each with its position; and each member is one of those of
+/// a block that was opened.
+pub fn blocks_have_their_members()
+    ensures { (p : Program) (w : World) → IsReached p w → BlocksHaveMembers w }
+{}
+
+/// Local work keeps a well typed frame well typed.
+pub fn local_work_keeps_frames_typed()
+    ensures { (h : Home) (heap : Heap) (n : ℕ) (f : Frame) → FrameFits h heap f → FrameFits h heap (after_work n f) }
+{}
+
+/// In a well typed world what a thread writes next has the kind of its location, and the next new array is one of whole numbers or of truth
+/// values.
+pub fn labels_of_typed_worlds_keep_kinds()
+    ensures { (p : Program) (w : World) → WorldFits p w → (i : ℕ) → KeepsKinds (field_kind p) w.heap (next (w.threads i)) }
+{}
+
+/// In a well typed program a step of a well typed world leads to a well typed world.
+pub fn steps_keep_worlds_typed()
+    ensures { (p : Program) → ProgramFits p → (w v : World) (mode : Mode) (i : ℕ) → WorldFits p w → act p w mode i ≡ Result.Went v → WorldFits p v }
+{}
+
+/// A well typed program starts in well typed worlds.
+pub fn starts_are_typed()
+    ensures { (p : Program) → ProgramFits p → (s : Start) → IsStart p s → WorldFits p (first_world s) }
+{}
+
+/// In a well typed program each reached world is well typed: its heap, and the frames of all its threads.
+pub fn reached_worlds_are_well_typed()
+    ensures { (p : Program) → ProgramFits p → (w : World) → IsReached p w → WorldFits p w }
+{}
+
+/// In a well typed program the heap of each reached world is well typed: every step writes values of the kinds of their places.
+pub fn reached_heaps_are_well_typed()
+    ensures { (p : Program) → ProgramFits p → (w : World) → IsReached p w → IsTypedHeap (field_kind p) w.heap }
+{}
+
+/// In each world that a well typed program reaches, nothing was done with the numbers beyond the heap's count: they are idle, uncommitted and
+/// unlocked, and no thread runs the `run` of one. So a new object is.
+pub fn numbers_beyond_the_count_are_fresh()
+    ensures { (p : Program) → ProgramFits p → (w : World) → IsReached p w → BeyondIsFresh w }
+{}
+
+/// There is a well typed program, with a declaration, a write and a call.
+pub fn a_program_is_well_typed()
+    ensures { ProgramFits program }
 {}

@@ -1,8 +1,15 @@
 //! The trees of programs. A contract sees them as plain data.
 #![tactic(auto)]
 
+mod fault;
+mod scope;
+mod standing;
+
+pub use fault::{Fault, Rule, ShapeFault};
 use pv_base::{Name, Span};
+pub use scope::{Declaration, Declared, Scope, ScopeVar, ScopeVars};
 use sqlite_items::{Boxed, Items};
+pub use standing::{Context, Need, Seen, StatementContext, Surround, Typing};
 
 /// A name where it stands.
 #[derive(Clone, Copy, Debug, PartialEq, Eq, Drop)]

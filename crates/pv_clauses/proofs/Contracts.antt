@@ -21,24 +21,32 @@ abbrev pub contract_reader : ℕ → Parser Contract
 contract_reader depth = clauses (deeper (limit - depth)) [] >>= λ cs. give (record { clauses = cs })
 
 module _ (depth : ℕ) where
-  to_contract : (us : Marked) (x : Contract) (vs : Marked) → Then (IsClauses depth) (λ cs. Is {A = Contract} (record { clauses = cs })) us x vs → IsContract depth us x vs
+  to_contract : (us : Marked) (x : Contract) (vs : Marked)
+      → Then (IsClauses depth) (λ cs. Is {A = Contract} (record { clauses = cs })) us x vs → IsContract depth us x vs
   to_contract us x vs (seq p i) = by_is (IsContract depth) i p
 
-  from_contract : (us : Marked) (x : Contract) (vs : Marked) → IsContract depth us x vs → Then (IsClauses depth) (λ cs. Is {A = Contract} (record { clauses = cs })) us x vs
+  from_contract : (us : Marked) (x : Contract) (vs : Marked) → IsContract depth us x vs
+      → Then (IsClauses depth) (λ cs. Is {A = Contract} (record { clauses = cs })) us x vs
   from_contract us x vs p = seq p is
 
-pub contract_exact : (depth : ℕ) → depth ≤ limit → Exact limit (either (knows clause_of) (above 10)) (above 10) (IsContract depth) (contract_reader depth)
+pub contract_exact : (depth : ℕ) → depth ≤ limit
+    → Exact limit (either (knows clause_of) (above 10)) (above 10) (IsContract depth) (contract_reader depth)
 contract_exact depth le = exact_as (to_contract depth) (from_contract depth)
-    (exact_bind (sub_refl (above 10)) (clauses_exact limit depth (deeper (limit - depth)) le (readers_known (limit - depth) limit depth (omega arith))) (λ cs. exact_give {A = Contract} (record { clauses = cs })))
+    (exact_bind (sub_refl (above 10)) (clauses_exact limit depth (deeper (limit - depth)) le
+    (readers_known (limit - depth) limit depth (omega arith))) (λ cs. exact_give {A = Contract} (record { clauses = cs })))
 
-fails_on : (depth : ℕ) (ts : Tokens) (f : ReadFault) → Fails f (clauses (deeper (limit - depth)) [] ts) → Fails f (contract_reader depth ts)
+fails_on : (depth : ℕ) (ts : Tokens) (f : ReadFault) → Fails f (clauses (deeper (limit - depth)) [] ts)
+    → Fails f (contract_reader depth ts)
 fails_on depth ts (fault.Unexpected left) h = ap (onward (λ cs. give {A = Contract} (record { clauses = cs }))) h
 fails_on depth ts (fault.TooDeep left) h = ap (onward (λ cs. give {A = Contract} (record { clauses = cs }))) h
 fails_on depth ts fault.NoMemory h = tt
 
 module _ (depth : ℕ) (found : List Clause) (none : found ≡ []) (ts : Tokens) where
-  pub contract_good : (us : Tokens) (cs : List Clause) → clauses (deeper (limit - depth)) found ts ≡ Good cs us → contract_reader depth ts ≡ Good (record { clauses = cs }) us
-  contract_good us cs h = ap (onward (λ cs. give {A = Contract} (record { clauses = cs }))) (ap (λ z. clauses (deeper (limit - depth)) z ts) (sym none) ∙ h)
+  pub contract_good : (us : Tokens) (cs : List Clause) → clauses (deeper (limit - depth)) found ts ≡ Good cs us
+      → contract_reader depth ts ≡ Good (record { clauses = cs }) us
+  contract_good us cs h =
+      ap (onward (λ cs. give {A = Contract} (record { clauses = cs })))
+      (ap (λ z. clauses (deeper (limit - depth)) z ts) (sym none) ∙ h)
 
   pub contract_fails : (f : ReadFault) → Fails f (clauses (deeper (limit - depth)) found ts) → Fails f (contract_reader depth ts)
   contract_fails f h = fails_on depth ts f (subst (λ z. Fails f (clauses (deeper (limit - depth)) z ts)) none h)

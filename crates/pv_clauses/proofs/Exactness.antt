@@ -6,12 +6,14 @@ use Rattle.pv_ast.specs.declared.ClauseKind.{ClauseKind}
 use Rattle.pv_reading.specs.Marks.{Marked}
 use Rattle.pv_reading.specs.Spelled.{Rule}
 use Rattle.pv_reading.proofs.Nexts.{anything, knows, either, sub_anything, sub_fixed, apart_table}
-use Rattle.pv_reading.proofs.Exact.{Begins, Exact, Is, is, Then, seq, AtFixed, at_fixed, exact_as, exact_give, exact_bind, exact_expect, deep_enough}
+use Rattle.pv_reading.proofs.Exact.{Begins, Exact, Is, is, Then, seq, AtFixed, at_fixed, exact_as, exact_give, exact_bind}
+use Rattle.pv_reading.proofs.Sights.{exact_expect, deep_enough}
 use Rattle.pv_reading.proofs.Loops.{Repeated, repeated_end, repeated_more, BehindAll, exact_repeated_behind, exact_repeated}
 use Rattle.pv_exprs.specs.Reading.{Readers}
 use Rattle.pv_exprs.specs.Grammar.{IsFormula}
 use Rattle.pv_exprs.proofs.Ranks.{above, starts}
-use Rattle.pv_exprs.proofs.Exactness.{Knows, formula_exact}
+use Rattle.pv_exprs.proofs.Exactness.{formula_exact}
+use Rattle.pv_exprs.proofs.Rules.{Knows}
 use Rattle.pv_clauses.specs.Grammar as g
 use Rattle.pv_clauses.specs.Grammar.{clause_words, clause_of, IsClauses}
 use Rattle.pv_clauses.specs.Reading
@@ -34,16 +36,23 @@ from_clauses d us cs vs (g.clause {vs = ws} {cs = xs} h p t) = repeated_more h (
 module _ (L d : ℕ) (e : Option Readers) (le : d ≤ L) (D : Knows L d e) where
   pub clause_exact : (k : ClauseKind) → Exact L starts anything (ClauseRule d k) (Reading.clause e k)
   unfolding Reading.clause
-  clause_exact k = exact_bind (sub_fixed SEMICOLON refl) (formula_exact L d e le D) (λ a. exact_expect SEMICOLON (λ l. deep_enough le (exact_give _)))
+  clause_exact k =
+      exact_bind (sub_fixed SEMICOLON refl) (formula_exact L d e le D)
+      (λ a. exact_expect SEMICOLON (λ l. deep_enough le (exact_give _)))
 
   -- whatever may stand behind the clauses is none of their words
   pub clauses_exact : Exact L (either (knows clause_of) (above 10)) (above 10) (IsClauses d) (Reading.clauses e [])
   unfolding Reading.clauses
-  clauses_exact = exact_as (to_clauses d) (from_clauses d) (exact_repeated le (λ k s. (starts, clause_exact k)) (apart_table clause_words (refl, (refl, (refl, tt)))) (sub_anything _))
+  clauses_exact =
+      exact_as (to_clauses d) (from_clauses d) (exact_repeated le (λ k s. (starts, clause_exact k))
+      (apart_table clause_words (refl, (refl, (refl, tt)))) (sub_anything _))
 
-  pub more_clauses_exact : (found : List Clause) → Exact L (either (knows clause_of) (above 10)) (above 10) (BehindAll found (ClausesRule d)) (Reading.clauses e found)
+  pub more_clauses_exact : (found : List Clause)
+      → Exact L (either (knows clause_of) (above 10)) (above 10) (BehindAll found (ClausesRule d)) (Reading.clauses e found)
   unfolding Reading.clauses
-  more_clauses_exact found = exact_repeated_behind le (λ k s. (starts, clause_exact k)) (apart_table clause_words (refl, (refl, (refl, tt)))) (sub_anything _) found
+  more_clauses_exact found =
+      exact_repeated_behind le (λ k s. (starts, clause_exact k)) (apart_table clause_words (refl, (refl, (refl, tt))))
+      (sub_anything _) found
 
 pub clauses_makes : (d : ℕ) → Begins (IsClauses d) []
 clauses_makes d = ([], [], λ rest. g.no_clause)

@@ -46,7 +46,8 @@ cause_in-same ns x e h = ap (λ (n : Entry). n.cause) (get_or-set_same ns x e un
 pub cause_in-other : (ns : List Entry) (x k : ℕ) (e : Entry) → k ≢ x → cause_in (set ns x e) k ≡ cause_in ns k
 cause_in-other ns x k e h = ap (λ (n : Entry). n.cause) (get_or-set_other ns x k e unlowered h)
 
-pub number_in-less : (ns : List Entry) (x k : ℕ) (e : Entry) → x < length ns → e.number ≤ℤ number_in ns x → number_in (set ns x e) k ≤ℤ number_in ns k
+pub number_in-less : (ns : List Entry) (x k : ℕ) (e : Entry) → x < length ns → e.number ≤ℤ number_in ns x
+    → number_in (set ns x e) k ≤ℤ number_in ns k
 number_in-less ns x k e h le = elim (same_or_other k x) [
   | inl same ↦ let a = number_in-same ns x e h in
       let b : number_in (set ns x e) k ≡ number_in (set ns x e) x = ap (number_in (set ns x e)) same in
@@ -56,7 +57,9 @@ number_in-less ns x k e h le = elim (same_or_other k x) [
 ]
 
 -- the lowered slot is lowered by the edge
-pub lowered_here : (es : List Edge) (ns : List Entry) (s : Sound es ns) (x q z : ℕ) (c m : ℤ) → x < length ns → slice_get es q ≡ Some (edge x z c) → m ≡ (number_in ns z +ℤ c) → m <ℤ number_in ns x → IsLoweredBy es (set ns x (entry m q z)) (stamped x s.clock s.time) x q z
+pub lowered_here : (es : List Edge) (ns : List Entry) (s : Sound es ns) (x q z : ℕ) (c m : ℤ) → x < length ns → slice_get es q
+    ≡ Some (edge x z c) → m ≡ (number_in ns z +ℤ c) → m <ℤ number_in ns x
+    → IsLoweredBy es (set ns x (entry m q z)) (stamped x s.clock s.time) x q z
 lowered_here es ns s x q z c m h f e lt =
     let same = number_in-same ns x (entry m q z) h in
     let less = number_in-less ns x z (entry m q z) h (omega (arith, ints)) in
@@ -65,15 +68,19 @@ lowered_here es ns s x q z c m h f e lt =
       found = f;
       above = omega (arith, ints, same, less);
       strict = elim (same_or_other z x) [
-        | inl k ↦ let a : number_in (set ns x (entry m q z)) z ≡ number_in (set ns x (entry m q z)) x = ap (number_in (set ns x (entry m q z))) k in
+        | inl k ↦ let a : number_in (set ns x (entry m q z)) z ≡ number_in (set ns x (entry m q z)) x =
+            ap (number_in (set ns x (entry m q z))) k in
             let b : number_in ns z ≡ number_in ns x = ap (number_in ns) k in
             inr (omega (arith, ints))
-        | inr k ↦ let a = stamped_other x s.clock z s.time k in let b = stamped_same x s.clock s.time in let d = s.past z in inl (omega (arith, a, b, d))
+        | inr k ↦ let a = stamped_other x s.clock z s.time k in let b = stamped_same x s.clock s.time in let d = s.past z in
+            inl (omega (arith, a, b, d))
       ];
     }
 
 -- the others are lowered as they were
-pub lowered_there : (es : List Edge) (ns : List Entry) (s : Sound es ns) (x : ℕ) (e : Entry) (k q z : ℕ) → x < length ns → e.number <ℤ number_in ns x → k ≢ x → IsLoweredBy es ns s.time k q z → IsLoweredBy es (set ns x e) (stamped x s.clock s.time) k q z
+pub lowered_there : (es : List Edge) (ns : List Entry) (s : Sound es ns) (x : ℕ) (e : Entry) (k q z : ℕ) → x < length ns
+    → e.number <ℤ number_in ns x → k ≢ x → IsLoweredBy es ns s.time k q z
+    → IsLoweredBy es (set ns x e) (stamped x s.clock s.time) k q z
 lowered_there es ns s x e k q z h lt ne old =
     let here = number_in-other ns x k e ne in
     let less = number_in-less ns x z e h (omega (arith, ints)) in
@@ -88,14 +95,21 @@ lowered_there es ns s x e k q z h lt ne old =
             let d : number_in ns z ≡ number_in ns x = ap (number_in ns) j in
             inr (omega (arith, ints))
         | inr j ↦ let a = stamped_other x s.clock z s.time j in let b = stamped_other x s.clock k s.time ne in
-            elim old.strict [ inl g ↦ inl (omega (arith, a, b, g)) | inr g ↦ inr (let d = number_in-other ns x z e j in omega (arith, ints)) ]
+            elim old.strict [
+              | inl g ↦ inl (omega (arith, a, b, g))
+              | inr g ↦ inr
+                  (let d = number_in-other ns x z e j in omega (arith, ints))
+            ]
       ];
     }
 
 none_or_some : {A : Type 0} {a : A} → Some a ≡ None → ⊥
 none_or_some h = cc
 
-lowered_same : (es : List Edge) (ns : List Entry) (s : Sound es ns) (x q z : ℕ) (c m : ℤ) → x < length ns → slice_get es q ≡ Some (edge x z c) → m ≡ (number_in ns z +ℤ c) → m <ℤ number_in ns x → (k p y : ℕ) → k ≡ x → cause_in (set ns x (entry m q z)) k ≡ Some (cause p y) → IsLoweredBy es (set ns x (entry m q z)) (stamped x s.clock s.time) k p y
+lowered_same : (es : List Edge) (ns : List Entry) (s : Sound es ns) (x q z : ℕ) (c m : ℤ) → x < length ns → slice_get es q
+    ≡ Some (edge x z c) → m ≡ (number_in ns z +ℤ c) → m <ℤ number_in ns x → (k p y : ℕ) → k ≡ x
+    → cause_in (set ns x (entry m q z)) k ≡ Some (cause p y)
+    → IsLoweredBy es (set ns x (entry m q z)) (stamped x s.clock s.time) k p y
 lowered_same es ns s x q z c m h f e lt k p y same g =
     let ms = set ns x (entry m q z) in
     let w = stamped x s.clock s.time in
@@ -103,25 +117,32 @@ lowered_same es ns s x q z c m h f e lt k p y same g =
     let place : q ≡ p = same_place ms k q p z y a g in
     let from : z ≡ y = same_from ms k q p z y a g in
     let here = lowered_here es ns s x q z c m h f e lt in
-    subst (λ (i : ℕ). IsLoweredBy es ms w k p i) from (subst (λ (i : ℕ). IsLoweredBy es ms w k i z) place (subst (λ (i : ℕ). IsLoweredBy es ms w i q z) (sym same) here))
+    subst (λ (i : ℕ). IsLoweredBy es ms w k p i) from
+    (subst (λ (i : ℕ). IsLoweredBy es ms w k i z) place (subst (λ (i : ℕ). IsLoweredBy es ms w i q z) (sym same) here))
 
 -- an edge lowers the slot that it leads to
-pub Sound-lowered : (es : List Edge) (ns : List Entry) (x q z : ℕ) (c m : ℤ) → Sound es ns → x < length ns → slice_get es q ≡ Some (edge x z c) → m ≡ (number_in ns z +ℤ c) → m <ℤ number_in ns x → Sound es (set ns x (entry m q z))
+pub Sound-lowered : (es : List Edge) (ns : List Entry) (x q z : ℕ) (c m : ℤ) → Sound es ns → x < length ns → slice_get es q
+    ≡ Some (edge x z c) → m ≡ (number_in ns z +ℤ c) → m <ℤ number_in ns x → Sound es (set ns x (entry m q z))
 Sound-lowered es ns x q z c m s h f e lt = record {
   time = stamped x s.clock s.time;
   clock = s.clock + 1;
   past = λ k. elim (same_or_other k x) [
-    | inl same ↦ let a = stamped_same x s.clock s.time in let b : stamped x s.clock s.time k ≡ stamped x s.clock s.time x = ap (stamped x s.clock s.time) same in omega (arith, a, b)
+    | inl same ↦ let a = stamped_same x s.clock s.time in let b : stamped x s.clock s.time k ≡ stamped x s.clock s.time x =
+        ap (stamped x s.clock s.time) same in omega (arith, a, b)
     | inr other ↦ let a = stamped_other x s.clock k s.time other in let b = s.past k in omega (arith, a, b)
   ];
-  fallen = λ k. let a = number_in-less ns x k (entry m q z) h (omega (arith, ints)) in let b = s.fallen k in omega (arith, ints, a, b);
+  fallen = λ k. let a = number_in-less ns x k (entry m q z) h (omega (arith, ints)) in let b = s.fallen k in
+      omega (arith, ints, a, b);
   top = λ k g. elim (same_or_other k x) [
-    | inl same ↦ let a = cause_in-same ns x (entry m q z) h in let b : cause_in (set ns x (entry m q z)) k ≡ cause_in (set ns x (entry m q z)) x = ap (cause_in (set ns x (entry m q z))) same in absurd (none_or_some (sym (b ∙ a) ∙ g))
+    | inl same ↦ let a = cause_in-same ns x (entry m q z) h in let b : cause_in (set ns x (entry m q z)) k
+        ≡ cause_in (set ns x (entry m q z)) x = ap (cause_in (set ns x (entry m q z))) same in
+        absurd (none_or_some (sym (b ∙ a) ∙ g))
     | inr other ↦ number_in-other ns x k (entry m q z) other ∙ s.top k (sym (cause_in-other ns x k (entry m q z) other) ∙ g)
   ];
   lowered = λ k p y g. elim (same_or_other k x) [
     | inl same ↦ lowered_same es ns s x q z c m h f e lt k p y same g
-    | inr other ↦ lowered_there es ns s x (entry m q z) k p y h lt other (s.lowered k p y (sym (cause_in-other ns x k (entry m q z) other) ∙ g))
+    | inr other ↦ lowered_there es ns s x (entry m q z) k p y h lt other
+        (s.lowered k p y (sym (cause_in-other ns x k (entry m q z) other) ∙ g))
   ];
 }
 
@@ -131,14 +152,16 @@ deeper (pos a) (negsuc b) h k l = absurd (omega (arith, ints))
 deeper (negsuc a) (pos b) h k l = omega (arith, ints)
 deeper (negsuc a) (negsuc b) h k l = omega (arith, ints)
 
-pub height-lowered : (ns : List Entry) (x : ℕ) (e : Entry) → x < length ns → e.number <ℤ number_in ns x → number_in ns x ≤ℤ pos 0 → pos 0 ≤ℤ (e.number +ℤ pos (2 ^ 121)) → height (set ns x e) < height ns
+pub height-lowered : (ns : List Entry) (x : ℕ) (e : Entry) → x < length ns → e.number <ℤ number_in ns x → number_in ns x ≤ℤ pos 0
+    → pos 0 ≤ℤ (e.number +ℤ pos (2 ^ 121)) → height (set ns x e) < height ns
 height-lowered ns x e h lt up low =
     let a = sum_by-set (λ (n : Entry). 2 ^ 122 - unsigned_abs n.number) ns x e unlowered h in
     let b = deeper e.number (number_in ns x) lt up low in
     omega (arith, a, b)
 
 -- a number that is not far below zero
-pub number_in-near : (es : List Edge) (ns : List Entry) (k : ℕ) → AreAbove es ns → length es < 2 ^ 20 → widest es ≤ 2 ^ 100 → pos 0 ≤ℤ (number_in ns k +ℤ pos (2 ^ 120))
+pub number_in-near : (es : List Edge) (ns : List Entry) (k : ℕ) → AreAbove es ns → length es < 2 ^ 20 → widest es ≤ 2 ^ 100
+    → pos 0 ≤ℤ (number_in ns k +ℤ pos (2 ^ 120))
 unfolding AreAbove
 number_in-near es ns k h few wide = let a = h k in let b = breadth-most es wide in omega (arith, ints, a, b)
 
@@ -147,7 +170,11 @@ unfolding IsSound
 number_in-down es ns k h = h.fallen k
 
 -- the slot of an edge that is not met is lowered to what the edge asks
-pub Lowers-made : (es : List Edge) (ns : List Entry) (q : ℕ) (d : Edge) (m : ℤ) → IsSound es ns → AreAbove es ns → AllBelow (length ns) es → length es < 2 ^ 20 → widest es ≤ 2 ^ 100 → q < length es → m ≡ (number_in ns (slice_index_or es q d).from +ℤ (slice_index_or es q d).bound) → m <ℤ number_in ns (slice_index_or es q d).to → Lowers es ns (set ns (slice_index_or es q d).to (entry m q (slice_index_or es q d).from)) (slice_index_or es q d).to
+pub Lowers-made : (es : List Edge) (ns : List Entry) (q : ℕ) (d : Edge) (m : ℤ) → IsSound es ns → AreAbove es ns
+    → AllBelow (length ns) es → length es < 2 ^ 20 → widest es ≤ 2 ^ 100 → q < length es → m
+    ≡ (number_in ns (slice_index_or es q d).from +ℤ (slice_index_or es q d).bound)
+    → m <ℤ number_in ns (slice_index_or es q d).to
+    → Lowers es ns (set ns (slice_index_or es q d).to (entry m q (slice_index_or es q d).from)) (slice_index_or es q d).to
 unfolding IsSound AreAbove
 Lowers-made es ns q d m s above below few wide lt e falls =
     let x = (slice_index_or es q d).to in

@@ -47,23 +47,29 @@ reach-length [] = omega arith
 reach-length (l ∷ ls) = let r = reach-length ls in omega arith
 
 -- what stands at a place of a list with one element more
-slice_get_cases : (xs : List Literal) (y l : Literal) (k : ℕ) → slice_get (xs ++ y ∷ []) k ≡ Some l → (slice_get xs k ≡ Some l) ⊎ ((k ≡ length xs) × (y ≡ l))
+slice_get_cases : (xs : List Literal) (y l : Literal) (k : ℕ) → slice_get (xs ++ y ∷ []) k ≡ Some l
+    → (slice_get xs k ≡ Some l) ⊎ ((k ≡ length xs) × (y ≡ l))
 slice_get_cases [] y l zero h = inr (refl, cc)
 slice_get_cases [] y l (suc k) h = cc
 slice_get_cases (x ∷ xs) y l zero h = inl h
 slice_get_cases (x ∷ xs) y l (suc k) h = elim (slice_get_cases xs y l k h) [ inl a ↦ inl a | inr b ↦ inr (ap suc b.0, b.1) ]
 
-pub IsPart-more : (ls part : List Literal) (places : List ℕ) (i : ℕ) (d : Literal) → i < length ls → differences_in (slice_index_or ls i d ∷ []) ≡ slice_index_or ls i d ∷ [] → IsPart ls (take i ls) part places → IsPart ls (take (i + 1) ls) (part ++ slice_index_or ls i d ∷ []) (places ++ i ∷ [])
+pub IsPart-more : (ls part : List Literal) (places : List ℕ) (i : ℕ) (d : Literal) → i < length ls
+    → differences_in (slice_index_or ls i d ∷ []) ≡ slice_index_or ls i d ∷ [] → IsPart ls (take i ls) part places
+    → IsPart ls (take (i + 1) ls) (part ++ slice_index_or ls i d ∷ []) (places ++ i ∷ [])
 IsPart-more ls part places i d lt is p =
     let here : Literal = slice_index_or ls i d in
     record {
-      differences = ap (λ (q : List Literal). q ++ here ∷ []) p.differences ∙ ap (λ (q : List Literal). differences_in (take i ls) ++ q) (sym is) ∙ sym (differences_in-append (take i ls) (here ∷ [])) ∙ ap differences_in (sym (take_more ls i d lt));
+      differences = ap (λ (q : List Literal). q ++ here ∷ []) p.differences
+          ∙ ap (λ (q : List Literal). differences_in (take i ls) ++ q) (sym is)
+          ∙ sym (differences_in-append (take i ls) (here ∷ [])) ∙ ap differences_in (sym (take_more ls i d lt));
       size = let a = length-append places (i ∷ []) in let b = length-append part (here ∷ []) in let s = p.size in omega arith;
       from = λ k l h. elim (slice_get_cases part here l k h) [
         | inl a ↦
             let under = slice_get_within part k l a in
             let s = p.size in
-            let same : slice_index_or (places ++ i ∷ []) k 0 ≡ slice_index_or places k 0 = get_or_append_left places (i ∷ []) 0 k (omega arith) in
+            let same : slice_index_or (places ++ i ∷ []) k 0 ≡ slice_index_or places k 0 =
+            get_or_append_left places (i ∷ []) 0 k (omega arith) in
             subst (λ (q : ℕ). slice_get ls q ≡ Some l) (sym same) (p.from k l a)
         | inr b ↦
             let s = p.size in
@@ -77,9 +83,13 @@ append_nil : (xs : List Literal) → xs ++ [] ≡ xs
 append_nil [] = refl
 append_nil (x ∷ xs) = ap (λ (q : List Literal). x ∷ q) (append_nil xs)
 
-pub IsPart-other : (ls part : List Literal) (places : List ℕ) (i : ℕ) (d : Literal) → i < length ls → differences_in (slice_index_or ls i d ∷ []) ≡ [] → IsPart ls (take i ls) part places → IsPart ls (take (i + 1) ls) part places
+pub IsPart-other : (ls part : List Literal) (places : List ℕ) (i : ℕ) (d : Literal) → i < length ls
+    → differences_in (slice_index_or ls i d ∷ []) ≡ [] → IsPart ls (take i ls) part places
+    → IsPart ls (take (i + 1) ls) part places
 IsPart-other ls part places i d lt none p = record {
-  differences = p.differences ∙ sym (ap differences_in (take_more ls i d lt) ∙ differences_in-append (take i ls) (slice_index_or ls i d ∷ []) ∙ ap (λ (q : List Literal). differences_in (take i ls) ++ q) none ∙ append_nil (differences_in (take i ls)));
+  differences = p.differences ∙ sym (ap differences_in (take_more ls i d lt)
+      ∙ differences_in-append (take i ls) (slice_index_or ls i d ∷ [])
+      ∙ ap (λ (q : List Literal). differences_in (take i ls) ++ q) none ∙ append_nil (differences_in (take i ls)));
   size = p.size;
   from = p.from;
 }
@@ -88,11 +98,14 @@ IsPart-other ls part places i d lt none p = record {
 abbrev pub places_in : List ℕ → List ℕ → List ℕ
 places_in places ps = map (λ k. slice_index_or places k 0) ps
 
-pub Walk-from : (whole part : List Literal) (places : List ℕ) (z x : Symbol) (t : ℤ) (ps : List ℕ) → AreFrom whole part places → Walk part z x t ps → Walk whole z x t (places_in places ps)
+pub Walk-from : (whole part : List Literal) (places : List ℕ) (z x : Symbol) (t : ℤ) (ps : List ℕ) → AreFrom whole part places
+    → Walk part z x t ps → Walk whole z x t (places_in places ps)
 Walk-from whole part places z x t [] f w = w
-Walk-from whole part places z x t (p ∷ ps) f w = (w.0, w.1, w.2, f p (AtMost z w.0 w.1) w.3, Walk-from whole part places w.0 x w.2 ps f w.4, w.5)
+Walk-from whole part places z x t (p ∷ ps) f w =
+    (w.0, w.1, w.2, f p (AtMost z w.0 w.1) w.3, Walk-from whole part places w.0 x w.2 ps f w.4, w.5)
 
-under_at : (ls : List Literal) (z x : Symbol) (t : ℤ) (ps : List ℕ) (i : ℕ) → Walk ls z x t ps → i < length ps → slice_index_or ps i 0 < length ls
+under_at : (ls : List Literal) (z x : Symbol) (t : ℤ) (ps : List ℕ) (i : ℕ) → Walk ls z x t ps → i < length ps
+    → slice_index_or ps i 0 < length ls
 under_at ls z x t [] i w lt = absurd (omega arith)
 under_at ls z x t (p ∷ ps) zero w lt = slice_get_within ls p (AtMost z w.0 w.1) w.3
 under_at ls z x t (p ∷ ps) (suc i) w lt = under_at ls w.0 x w.2 ps i w.4 (omega arith)
@@ -100,5 +113,6 @@ under_at ls z x t (p ∷ ps) (suc i) w lt = under_at ls w.0 x w.2 ps i w.4 (omeg
 pub Walk-within : (ls : List Literal) (z x : Symbol) (t : ℤ) (ps : List ℕ) → Walk ls z x t ps → All (λ k. k < length ls) ps
 Walk-within ls z x t ps w = All-from_get_or (λ k. k < length ls) ps 0 (λ i lt. under_at ls z x t ps i w lt)
 
-pub IsInDifference-from : (whole part : List Literal) (places : List ℕ) (k : ℕ) → AreFrom whole part places → IsInDifference part k → IsInDifference whole k
+pub IsInDifference-from : (whole part : List Literal) (places : List ℕ) (k : ℕ) → AreFrom whole part places
+    → IsInDifference part k → IsInDifference whole k
 IsInDifference-from whole part places k f h = (slice_index_or places h.0 0, h.1, h.2, h.3, f h.0 (AtMost h.1 h.2 h.3) h.4, h.5)

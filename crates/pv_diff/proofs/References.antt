@@ -18,12 +18,14 @@ few_references (AtMost x y c) = omega arith
 few_references (Same x y) = omega arith
 few_references (Differ x y) = omega arith
 
-pub NamedUnder-more : (ls : List Literal) (s : List ℕ) (i : ℕ) (d : Literal) → i < length ls → NamedUnder ls s i → NamedUnder ls (s ++ references_in (slice_index_or ls i d)) (i + 1)
+pub NamedUnder-more : (ls : List Literal) (s : List ℕ) (i : ℕ) (d : Literal) → i < length ls → NamedUnder ls s i
+    → NamedUnder ls (s ++ references_in (slice_index_or ls i d)) (i + 1)
 NamedUnder-more ls s i d lt h p k l le g c = elim (same_or_other p i) [
   | inl same ↦
       let q : Some (slice_index_or ls i d) ≡ Some l = sym (slice_get-get_or ls i d lt) ∙ sym (ap (slice_get ls) same) ∙ g in
       let e : slice_index_or ls i d ≡ l = cc in
-      Contains-append_right s (references_in (slice_index_or ls i d)) k (subst (λ (m : Literal). Contains (references_in m) k) (sym e) c)
+      Contains-append_right s (references_in (slice_index_or ls i d)) k
+      (subst (λ (m : Literal). Contains (references_in m) k) (sym e) c)
   | inr other ↦ Contains-append_left s (references_in (slice_index_or ls i d)) k (h p k l (omega arith) g c)
 ]
 
@@ -37,7 +39,8 @@ reference_in (AtMost x y c) k h = let lt = h.1 in omega arith
 reference_in (Same x y) k h = in_pair x.0 y.0 k h
 reference_in (Differ x y) k h = in_pair x.0 y.0 k h
 
-reference_among : (ls : List Literal) (i k : ℕ) (d : Literal) → i < length ls → Contains (references_in (slice_index_or ls i d)) k → IsReferenceAmong ls k
+reference_among : (ls : List Literal) (i k : ℕ) (d : Literal) → i < length ls → Contains (references_in (slice_index_or ls i d)) k
+    → IsReferenceAmong ls k
 reference_among [] i k d lt h = absurd (omega arith)
 reference_among (l ∷ ls) zero k d lt h = inl (reference_in l k h)
 reference_among (l ∷ ls) (suc i) k d lt h = inr (reference_among ls i k d (omega arith) h)
@@ -48,7 +51,8 @@ AreOnlyReferences-start ls s e k h = elim (Contains-push_cases s 0 k h) [
   | inr z ↦ inl (sym z)
 ]
 
-pub AreOnlyReferences-more : (ls : List Literal) (s : List ℕ) (i : ℕ) (d : Literal) → i < length ls → AreOnlyReferences s ls → AreOnlyReferences (s ++ references_in (slice_index_or ls i d)) ls
+pub AreOnlyReferences-more : (ls : List Literal) (s : List ℕ) (i : ℕ) (d : Literal) → i < length ls → AreOnlyReferences s ls
+    → AreOnlyReferences (s ++ references_in (slice_index_or ls i d)) ls
 AreOnlyReferences-more ls s i d lt h k c = elim (Contains-append_cases s (references_in (slice_index_or ls i d)) k c) [
   | inl a ↦ h k a
   | inr b ↦ inr (reference_among ls i k d lt b)

@@ -38,15 +38,25 @@ no_some : IsSome {T = ℕ} None → ⊥
 no_some h = cc
 
 pub Gone-start : (back : Bool) (es : List Edge) (ns : List Entry) → IsSound es ns → AreAbove es ns → Gone back es ns ns None 0
-Gone-start back es ns s a = record { sound = s; above = a; kept = λ _. refl; met = λ _ j lt. absurd (omega arith); slot = tt; level = omega arith; lower = λ h. absurd (no_some h) }
+Gone-start back es ns s a = record {
+  sound = s;
+  above = a;
+  kept = λ _. refl;
+  met = λ _ j lt. absurd (omega arith);
+  slot = tt;
+  level = omega arith;
+  lower = λ h. absurd (no_some h);
+}
 
-pub Gone-kept : (back : Bool) (es : List Edge) (old ns ms : List Entry) (last : Option ℕ) (i : ℕ) → Gone back es old ns last i → ms ≡ ns → IsMet ns (slice_index_or es (place_at back (length es) i) (edge 0 0 (pos 0))) → Gone back es old ms last (i + 1)
+pub Gone-kept : (back : Bool) (es : List Edge) (old ns ms : List Entry) (last : Option ℕ) (i : ℕ) → Gone back es old ns last i
+    → ms ≡ ns → IsMet ns (slice_index_or es (place_at back (length es) i) (edge 0 0 (pos 0))) → Gone back es old ms last (i + 1)
 Gone-kept back es old ns ms last i g e m = record {
   sound = subst (IsSound es) (sym e) g.sound;
   above = subst (AreAbove es) (sym e) g.above;
   kept = λ h. e ∙ g.kept h;
   met = λ h j lt. elim (same_or_other j i) [
-    | inl same ↦ subst (λ (k : ℕ). IsMet old (slice_index_or es (place_at back (length es) k) (edge 0 0 (pos 0)))) (sym same) (subst (λ (n : List Entry). IsMet n (slice_index_or es (place_at back (length es) i) (edge 0 0 (pos 0)))) (g.kept h) m)
+    | inl same ↦ subst (λ (k : ℕ). IsMet old (slice_index_or es (place_at back (length es) k) (edge 0 0 (pos 0)))) (sym same)
+        (subst (λ (n : List Entry). IsMet n (slice_index_or es (place_at back (length es) i) (edge 0 0 (pos 0)))) (g.kept h) m)
     | inr other ↦ g.met h j (omega (arith, other))
   ];
   slot = subst (λ (n : List Entry). IfSome last (λ x. x < length n)) (sym e) g.slot;
@@ -57,7 +67,8 @@ Gone-kept back es old ns ms last i g e m = record {
 some_or_none : {A : Type 0} {a : A} → Some a ≡ None → ⊥
 some_or_none h = cc
 
-pub Gone-lowered : (back : Bool) (es : List Edge) (old ns ms : List Entry) (last : Option ℕ) (i x : ℕ) → Gone back es old ns last i → Lowers es ns ms x → IsAbove es ms x → Gone back es old ms (Some x) (i + 1)
+pub Gone-lowered : (back : Bool) (es : List Edge) (old ns ms : List Entry) (last : Option ℕ) (i x : ℕ)
+    → Gone back es old ns last i → Lowers es ns ms x → IsAbove es ms x → Gone back es old ms (Some x) (i + 1)
 unfolding AreAbove
 Gone-lowered back es old ns ms last i x g l a = record {
   sound = l.sound;
@@ -69,21 +80,40 @@ Gone-lowered back es old ns ms last i x g l a = record {
   lower = λ _. let a = g.level in let b = l.lower in omega arith;
 }
 
-pub Gone-ended : (back : Bool) (es : List Edge) (old ns ms : List Entry) (last : Option ℕ) (i x : ℕ) → Gone back es old ns last i → Lowers es ns ms x → Lowers es old ms x
-Gone-ended back es old ns ms last i x g l = record { slot = l.slot; sound = l.sound; above = l.above; near = l.near; lower = let a = g.level in let b = l.lower in omega arith }
+pub Gone-ended : (back : Bool) (es : List Edge) (old ns ms : List Entry) (last : Option ℕ) (i x : ℕ) → Gone back es old ns last i
+    → Lowers es ns ms x → Lowers es old ms x
+Gone-ended back es old ns ms last i x g l = record {
+  slot = l.slot;
+  sound = l.sound;
+  above = l.above;
+  near = l.near;
+  lower =
+      let a = g.level in let b = l.lower in omega arith;
+}
 
-pub Gone-met : (back : Bool) (es : List Edge) (old ns : List Entry) (last : Option ℕ) (i : ℕ) → Gone back es old ns last i → length es ≤ i → last ≡ None → AreMet old es
+pub Gone-met : (back : Bool) (es : List Edge) (old ns : List Entry) (last : Option ℕ) (i : ℕ) → Gone back es old ns last i
+    → length es ≤ i → last ≡ None → AreMet old es
 Gone-met back es old ns last i g le h = AreMet-each old es (edge 0 0 (pos 0)) (λ k lt.
     subst (λ (j : ℕ). IsMet old (slice_index_or es j (edge 0 0 (pos 0)))) (place_at-place_at back (length es) k lt)
     (let fits = place_at-fits back (length es) k lt in g.met h (place_at back (length es) k) (omega (arith, fits))))
 
-pub Gone-last : (back : Bool) (es : List Edge) (old ns : List Entry) (last : Option ℕ) (i : ℕ) → length es < 2 ^ 20 → widest es ≤ 2 ^ 100 → Gone back es old ns last i → IfSome last (λ x. Lowers es old ns x)
+pub Gone-last : (back : Bool) (es : List Edge) (old ns : List Entry) (last : Option ℕ) (i : ℕ) → length es < 2 ^ 20
+    → widest es ≤ 2 ^ 100 → Gone back es old ns last i → IfSome last (λ x. Lowers es old ns x)
 unfolding AreAbove
 Gone-last back es old ns None i few wide g = tt
-Gone-last back es old ns (Some x) i few wide g = record { slot = g.slot; sound = g.sound; above = λ k _. g.above k; near = (let a = number_in-near es ns x g.above few wide in omega (arith, ints, a)); lower = g.lower refl }
+Gone-last back es old ns (Some x) i few wide g =
+    record {
+      slot = g.slot;
+      sound = g.sound;
+      above = λ k _. g.above k;
+      near =
+          (let a = number_in-near es ns x g.above few wide in omega (arith, ints, a));
+      lower = g.lower refl;
+    }
 
 -- a slice of all of a list, written back
-pub written_back : (new old : List Entry) (n : ℕ) → length new ≡ length old → n ≡ length old → take n (new ++ drop (length new) old) ≡ new
+pub written_back : (new old : List Entry) (n : ℕ) → length new ≡ length old → n ≡ length old
+    → take n (new ++ drop (length new) old) ≡ new
 written_back new old n e f = let k : n ≡ length new = omega arith in rw k (take-append_seam new (drop (length new) old))
 
 -- entries that nothing has lowered

@@ -21,7 +21,8 @@ symbol k = record { 0 = k }
 
 -- the symbols of the differences before i are in the list
 abbrev pub NamedBelow : List Literal → List ℕ → ℕ → Type 0
-NamedBelow ls s i = (p : ℕ) (x y : Symbol) (c : ℤ) → p < i → slice_get ls p ≡ Some (AtMost x y c) → Contains s x.0 × Contains s y.0
+NamedBelow ls s i = (p : ℕ) (x y : Symbol) (c : ℤ) → p < i → slice_get ls p ≡ Some (AtMost x y c) → Contains s x.0
+    × Contains s y.0
 
 -- the symbols and the bound of a literal, if it is a difference
 abbrev pub first_of : Option Literal → ℕ
@@ -36,10 +37,12 @@ second_of (Some (AtMost x y c)) = y.0
 second_of (Some (Same x y)) = 0
 second_of (Some (Differ x y)) = 0
 
-pub NamedBelow-more : (ls : List Literal) (s : List ℕ) (i : ℕ) (d : Literal) (a b : ℕ) (m : ℤ) → i < length ls → slice_index_or ls i d ≡ AtMost (symbol a) (symbol b) m → NamedBelow ls s i → NamedBelow ls ((s ++ a ∷ []) ++ b ∷ []) (i + 1)
+pub NamedBelow-more : (ls : List Literal) (s : List ℕ) (i : ℕ) (d : Literal) (a b : ℕ) (m : ℤ) → i < length ls
+    → slice_index_or ls i d ≡ AtMost (symbol a) (symbol b) m → NamedBelow ls s i → NamedBelow ls ((s ++ a ∷ []) ++ b ∷ []) (i + 1)
 NamedBelow-more ls s i d a b m lt e h p x y c le g = elim (same_or_other p i) [
   | inl same ↦
-      let here : slice_get ls i ≡ Some (AtMost (symbol a) (symbol b) m) = slice_get-get_or ls i d lt ∙ ap (λ (l : Literal). Some l) e in
+      let here : slice_get ls i ≡ Some (AtMost (symbol a) (symbol b) m) = slice_get-get_or ls i d lt
+      ∙ ap (λ (l : Literal). Some l) e in
       let there : slice_get ls i ≡ Some (AtMost x y c) = subst (λ (k : ℕ). slice_get ls k ≡ Some (AtMost x y c)) same g in
       let first : a ≡ x.0 = ap first_of (sym here ∙ there) in
       let second : b ≡ y.0 = ap second_of (sym here ∙ there) in (
@@ -73,7 +76,8 @@ order zero (suc n) = inl (omega arith)
 order (suc m) (suc n) = elim (order m n) [ inl h ↦ inl (omega arith) | inr h ↦ inr (omega arith) ]
 
 -- a number that is in the list is at some place
-pub not_missed : (s : List ℕ) (x i : ℕ) → Contains s x → ((k : ℕ) → k < i → get_or s k 0 < x) → ((k : ℕ) → i ≤ k → k < length s → x < get_or s k 0) → ⊥
+pub not_missed : (s : List ℕ) (x i : ℕ) → Contains s x → ((k : ℕ) → k < i → get_or s k 0 < x)
+    → ((k : ℕ) → i ≤ k → k < length s → x < get_or s k 0) → ⊥
 not_missed s x i c below above = elim (order c.0 i) [
   | inl lt ↦ let a = below c.0 lt in let b = get_or_default s c.0 x 0 c.1 in let d = c.2 in omega (arith, a, b, d)
   | inr le ↦ let a = above c.0 le c.1 in let b = get_or_default s c.0 x 0 c.1 in let d = c.2 in omega (arith, a, b, d)
@@ -81,14 +85,18 @@ not_missed s x i c below above = elim (order c.0 i) [
 
 -- the numbers of the slots before i are written at their symbols, less zero
 abbrev pub WrittenBelow : List ℕ → List Entry → List ℤ → ℤ → ℕ → Type 0
-WrittenBelow s ns numbers least i = (slot x : ℕ) → slot < i → slice_get s slot ≡ Some x → slice_index_or numbers x (pos 0) ≡ (number_in ns slot -ℤ least)
+WrittenBelow s ns numbers least i = (slot x : ℕ) → slot < i → slice_get s slot ≡ Some x → slice_index_or numbers x (pos 0)
+    ≡ (number_in ns slot -ℤ least)
 
-pub WrittenBelow-more : (s : List ℕ) (ns : List Entry) (numbers : List ℤ) (least m : ℤ) (i : ℕ) → i < length s → IsStrictlyIncreasing s → get_or s i 0 < length numbers → m ≡ (number_in ns i -ℤ least) → WrittenBelow s ns numbers least i → WrittenBelow s ns (set numbers (get_or s i 0) m) least (i + 1)
+pub WrittenBelow-more : (s : List ℕ) (ns : List Entry) (numbers : List ℤ) (least m : ℤ) (i : ℕ) → i < length s
+    → IsStrictlyIncreasing s → get_or s i 0 < length numbers → m ≡ (number_in ns i -ℤ least) → WrittenBelow s ns numbers least i
+    → WrittenBelow s ns (set numbers (get_or s i 0) m) least (i + 1)
 WrittenBelow-more s ns numbers least m i lt rises fits e h slot x le g = elim (same_or_other slot i) [
   | inl same ↦
       let at : x ≡ get_or s i 0 = sym (read_at s slot x g) ∙ ap (λ (k : ℕ). get_or s k 0) same in
       let here : number_in ns slot ≡ number_in ns i = ap (number_in ns) same in
-      let a : get_or (set numbers (get_or s i 0) m) x (pos 0) ≡ get_or (set numbers (get_or s i 0) m) (get_or s i 0) (pos 0) = ap (λ (k : ℕ). get_or (set numbers (get_or s i 0) m) k (pos 0)) at in
+      let a : get_or (set numbers (get_or s i 0) m) x (pos 0) ≡ get_or (set numbers (get_or s i 0) m) (get_or s i 0) (pos 0) =
+      ap (λ (k : ℕ). get_or (set numbers (get_or s i 0) m) k (pos 0)) at in
       let b = get_or-set_same numbers (get_or s i 0) m (pos 0) fits in
       omega (arith, ints, a, b, here, e)
   | inr other ↦
@@ -100,20 +108,26 @@ WrittenBelow-more s ns numbers least m i lt rises fits e h slot x le g = elim (s
 
 -- numbers that are as near to zero as all of the table
 abbrev pub AreNear : List Entry → List ℤ → Type 0
-AreNear ns numbers = (n : ℕ) → ((k : ℕ) → pos 0 ≤ℤ (number_in ns k +ℤ pos n)) → (k : ℕ) → IsWithin n (slice_index_or numbers k (pos 0))
+AreNear ns numbers = (n : ℕ) → ((k : ℕ) → pos 0 ≤ℤ (number_in ns k +ℤ pos n)) → (k : ℕ)
+    → IsWithin n (slice_index_or numbers k (pos 0))
 
-pub AreNear-more : (ns : List Entry) (numbers : List ℤ) (m : ℤ) (i z j : ℕ) → j < length numbers → ((k : ℕ) → number_in ns k ≤ℤ pos 0) → m ≡ (number_in ns i -ℤ number_in ns z) → AreNear ns numbers → AreNear ns (set numbers j m)
+pub AreNear-more : (ns : List Entry) (numbers : List ℤ) (m : ℤ) (i z j : ℕ) → j < length numbers
+    → ((k : ℕ) → number_in ns k ≤ℤ pos 0) → m ≡ (number_in ns i -ℤ number_in ns z) → AreNear ns numbers
+    → AreNear ns (set numbers j m)
 AreNear-more ns numbers m i z j fits down e h n low k = elim (same_or_other k j) [
   | inl same ↦
-      let a : get_or (set numbers j m) k (pos 0) ≡ get_or (set numbers j m) j (pos 0) = ap (λ (q : ℕ). get_or (set numbers j m) q (pos 0)) same in
+      let a : get_or (set numbers j m) k (pos 0) ≡ get_or (set numbers j m) j (pos 0) =
+      ap (λ (q : ℕ). get_or (set numbers j m) q (pos 0)) same in
       let b = get_or-set_same numbers j m (pos 0) fits in
       let l = low i in let r = low z in let u = down i in let v = down z in
       record { low = omega (arith, ints, a, b, e, l, r, u, v); high = omega (arith, ints, a, b, e, l, r, u, v) }
   | inr other ↦ subst (IsWithin n) (sym (get_or-set_other numbers j k m (pos 0) other)) (h n low k)
 ]
 
-pub AreNear-start : (ns : List Entry) (numbers : List ℤ) → ((k : ℕ) → slice_index_or numbers k (pos 0) ≡ pos 0) → AreNear ns numbers
-AreNear-start ns numbers h n low k = subst (IsWithin n) (sym (h k)) (record { low = omega (arith, ints); high = omega (arith, ints) })
+pub AreNear-start : (ns : List Entry) (numbers : List ℤ) → ((k : ℕ) → slice_index_or numbers k (pos 0) ≡ pos 0)
+    → AreNear ns numbers
+AreNear-start ns numbers h n low k = subst (IsWithin n) (sym (h k))
+    (record { low = omega (arith, ints); high = omega (arith, ints) })
 
 -- each symbol has one slot
 pub same_slot : (s : List ℕ) (i j x : ℕ) → IsStrictlyIncreasing s → slice_get s i ≡ Some x → slice_get s j ≡ Some x → i ≡ j
@@ -134,9 +148,11 @@ AreOnlyNamed-start ls s e k h = elim (Contains-push_cases s 0 k h) [
   | inr z ↦ inl (sym z)
 ]
 
-pub AreOnlyNamed-more : (ls : List Literal) (s : List ℕ) (i : ℕ) (d : Literal) (a b : ℕ) (m : ℤ) → i < length ls → slice_index_or ls i d ≡ AtMost (symbol a) (symbol b) m → AreOnlyNamed s ls → AreOnlyNamed ((s ++ a ∷ []) ++ b ∷ []) ls
+pub AreOnlyNamed-more : (ls : List Literal) (s : List ℕ) (i : ℕ) (d : Literal) (a b : ℕ) (m : ℤ) → i < length ls
+    → slice_index_or ls i d ≡ AtMost (symbol a) (symbol b) m → AreOnlyNamed s ls → AreOnlyNamed ((s ++ a ∷ []) ++ b ∷ []) ls
 AreOnlyNamed-more ls s i d a b m lt e h k c =
-    let here : slice_get ls i ≡ Some (AtMost (symbol a) (symbol b) m) = slice_get-get_or ls i d lt ∙ ap (λ (l : Literal). Some l) e in
+    let here : slice_get ls i ≡ Some (AtMost (symbol a) (symbol b) m) = slice_get-get_or ls i d lt
+    ∙ ap (λ (l : Literal). Some l) e in
     elim (Contains-push_cases (s ++ a ∷ []) b k c) [
       | inr z ↦ inr (i, symbol a, symbol b, m, here, inr z)
       | inl r ↦ elim (Contains-push_cases s a k r) [
@@ -149,7 +165,8 @@ AreOnlyNamed-more ls s i d a b m lt e h k c =
 abbrev pub AreSigned : List ℕ → List ℤ → Type 0
 AreSigned s numbers = (k : ℕ) → slice_index_or numbers k (pos 0) <ℤ pos 0 → Contains s k
 
-pub AreSigned-more : (s : List ℕ) (numbers : List ℤ) (i : ℕ) (m : ℤ) → i < length s → AreSigned s numbers → AreSigned s (set numbers (get_or s i 0) m)
+pub AreSigned-more : (s : List ℕ) (numbers : List ℤ) (i : ℕ) (m : ℤ) → i < length s → AreSigned s numbers
+    → AreSigned s (set numbers (get_or s i 0) m)
 AreSigned-more s numbers i m lt h k below = elim (same_or_other k (get_or s i 0)) [
   | inl e ↦ subst (Contains s) (sym e) (Contains-get_or s i 0 lt)
   | inr ne ↦ h k (subst (λ (z : ℤ). z <ℤ pos 0) (get_or-set_other numbers (get_or s i 0) k m (pos 0) ne) below)
@@ -161,4 +178,5 @@ get_or-zeros (suc n) zero = refl
 get_or-zeros (suc n) (suc k) = get_or-zeros n k
 
 pub AreSigned-start : (s : List ℕ) (numbers : List ℤ) (n : ℕ) → numbers ≡ replicate n (pos 0) → AreSigned s numbers
-AreSigned-start s numbers n e k below = absurd (let a = ap (λ (q : List ℤ). slice_index_or q k (pos 0)) e ∙ get_or-zeros n k in omega (arith, ints, a, below))
+AreSigned-start s numbers n e k below = absurd
+    (let a = ap (λ (q : List ℤ). slice_index_or q k (pos 0)) e ∙ get_or-zeros n k in omega (arith, ints, a, below))

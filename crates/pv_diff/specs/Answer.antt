@@ -38,7 +38,8 @@ DeniesAll literals (No conflict) = (v : Values) → Meets v literals → ⊥
 
 -- a difference has the symbol
 abbrev pub IsInDifference : List Literal → ℕ → Type 0
-IsInDifference literals k = (p : ℕ) × (x : Symbol) × (y : Symbol) × (c : ℤ) × (slice_get literals p ≡ Some (AtMost x y c)) × ((x.0 ≡ k) ⊎ (y.0 ≡ k))
+IsInDifference literals k = (p : ℕ) × (x : Symbol) × (y : Symbol) × (c : ℤ) × (slice_get literals p ≡ Some (AtMost x y c))
+    × ((x.0 ≡ k) ⊎ (y.0 ≡ k))
 
 -- in a yes only symbols of differences have numbers below zero
 abbrev pub IsSigned : List Literal → Solved → Type 0

@@ -24,7 +24,8 @@ breadth (e ∷ es) = unsigned_abs e.bound + breadth es
 -- from z the edges at these places lead to x, each from its first slot to its second, and their bounds add up to t
 abbrev pub Trail : List Edge → ℕ → ℕ → ℤ → List ℕ → Type 0
 Trail edges z x t [] = (z ≡ x) × (t ≡ pos 0)
-Trail edges z x t (p ∷ ps) = (y : ℕ) × (c : ℤ) × (u : ℤ) × (slice_get edges p ≡ Some (edge z y c)) × Trail edges y x u ps × (t ≡ (c +ℤ u))
+Trail edges z x t (p ∷ ps) = (y : ℕ) × (c : ℤ) × (u : ℤ) × (slice_get edges p ≡ Some (edge z y c)) × Trail edges y x u ps
+    × (t ≡ (c +ℤ u))
 
 -- they lead back to where they start, and add up to less than zero
 abbrev pub IsNegativeRound : List Edge → List ℕ → Type 0

@@ -64,10 +64,12 @@ pub record HasRoot (nodes : List Node) (seen : List (Option ℕ)) (k r : ℕ) : 
 
 -- what is joined to the slots of the nodes before n is in their trees
 abbrev pub AreClosed : List End → List (Option ℕ) → List Node → List (Option ℕ) → ℕ → Type 0
-AreClosed ends first nodes seen n = (i : ℕ) → i < n → (z p : ℕ) → HasEnd ends first (slot_at nodes i) z p → HasRoot nodes seen z (root_at nodes i)
+AreClosed ends first nodes seen n = (i : ℕ) → i < n → (z p : ℕ) → HasEnd ends first (slot_at nodes i) z p
+    → HasRoot nodes seen z (root_at nodes i)
 
 -- a forest whose last tree, the one from the node `root` on, is closed up to the node `at`, as are the trees before it
-pub record IsGrowing (ends : List End) (first : List (Option ℕ)) (nodes : List Node) (seen : List (Option ℕ)) (at root : ℕ) : Type 0 where
+pub record IsGrowing (ends : List End) (first : List (Option ℕ)) (nodes : List Node) (seen : List (Option ℕ))
+    (at root : ℕ) : Type 0 where
   pub forest : IsForest ends first nodes seen
   pub closed : AreClosed ends first nodes seen at
   pub begun : root ≤ at

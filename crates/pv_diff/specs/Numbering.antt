@@ -10,5 +10,6 @@ pub record IsClassNumber (references classes : List ℕ) (x : ℕ) (n : ℤ) : T
 
 -- each number is the old one or that of a class, and references have that of their class
 pub record AreNumbered (references classes : List ℕ) (old new : List ℤ) : Type 0 where
-  pub each : (x : ℕ) → (slice_index_or new x (pos 0) ≡ slice_index_or old x (pos 0)) ⊎ IsClassNumber references classes x (slice_index_or new x (pos 0))
+  pub each : (x : ℕ) → (slice_index_or new x (pos 0) ≡ slice_index_or old x (pos 0)) ⊎ IsClassNumber references classes x
+      (slice_index_or new x (pos 0))
   pub classed : (slot x : ℕ) → slice_get references slot ≡ Some x → slice_index_or new x (pos 0) ≡ pos (class_at classes slot)

@@ -23,7 +23,8 @@ differences_in (Differ x y ∷ ls) = differences_in ls
 
 -- each literal of a part stands at its place in the whole list
 abbrev pub AreFrom : List Literal → List Literal → List ℕ → Type 0
-AreFrom literals part places = (k : ℕ) (l : Literal) → slice_get part k ≡ Some l → slice_get literals (slice_index_or places k 0) ≡ Some l
+AreFrom literals part places = (k : ℕ) (l : Literal) → slice_get part k ≡ Some l → slice_get literals (slice_index_or places k 0)
+    ≡ Some l
 
 -- the part has the differences among the literals, each with its place in the whole list
 pub record IsPart (whole literals part : List Literal) (places : List ℕ) : Type 0 where

@@ -9,7 +9,8 @@ use Rattle.pv_diff.specs.declared.table.Edge.{Edge}
 
 -- both symbols of each difference are in the list
 abbrev pub AreNamed : List ℕ → List Literal → Type 0
-AreNamed symbols literals = (p : ℕ) (x y : Symbol) (c : ℤ) → slice_get literals p ≡ Some (AtMost x y c) → Contains symbols x.0 × Contains symbols y.0
+AreNamed symbols literals = (p : ℕ) (x y : Symbol) (c : ℤ) → slice_get literals p ≡ Some (AtMost x y c) → Contains symbols x.0
+    × Contains symbols y.0
 
 -- the edge is the difference, between the slots of its symbols
 abbrev pub IsEdge : List ℕ → Literal → Edge → Type 0
@@ -36,7 +37,8 @@ references_in (Differ x y) = x.0 ∷ y.0 ∷ []
 
 -- the symbols of each such literal are in the list
 abbrev pub AreReferencesNamed : List ℕ → List Literal → Type 0
-AreReferencesNamed symbols literals = (p k : ℕ) (l : Literal) → slice_get literals p ≡ Some l → Contains (references_in l) k → Contains symbols k
+AreReferencesNamed symbols literals = (p k : ℕ) (l : Literal) → slice_get literals p ≡ Some l → Contains (references_in l) k
+    → Contains symbols k
 
 -- only these symbols, and 0, are in the list
 abbrev pub AreOnlyReferences : List ℕ → List Literal → Type 0

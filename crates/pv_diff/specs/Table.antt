@@ -44,7 +44,8 @@ IsSound edges entries = Sound edges entries
 -- from x the causes lead to y, by the edges at these places, whose bounds add up to t
 abbrev pub Climb : List Edge → List Entry → ℕ → ℕ → ℤ → List ℕ → Type 0
 Climb edges entries x y t [] = (x ≡ y) × (t ≡ pos 0)
-Climb edges entries x y t (q ∷ qs) = (z : ℕ) × (c : ℤ) × (u : ℤ) × (cause_in entries x ≡ Some (cause q z)) × (slice_get edges q ≡ Some (edge x z c)) × Climb edges entries z y u qs × (t ≡ (c +ℤ u))
+Climb edges entries x y t (q ∷ qs) = (z : ℕ) × (c : ℤ) × (u : ℤ) × (cause_in entries x ≡ Some (cause q z))
+    × (slice_get edges q ≡ Some (edge x z c)) × Climb edges entries z y u qs × (t ≡ (c +ℤ u))
 
 -- the causes lead from x back to x, in at most n steps and at least one
 pub record Loops (edges : List Edge) (entries : List Entry) (x n : ℕ) : Type 0 where
@@ -89,5 +90,6 @@ pub record Lowers (edges : List Edge) (old new : List Entry) (x : ℕ) : Type 0 
 -- numbers for all slots that meet every edge, none of them above zero or further below it than all bounds together; or
 -- places of edges that go round and add up to less than zero
 abbrev pub IsSettled : List Edge → ℕ → Settled → Type 0
-IsSettled edges count (Numbers table) = (length table.items ≡ count) × AreMet table.items edges × ((k : ℕ) → IsAbove edges table.items k) × ((k : ℕ) → number_in table.items k ≤ℤ pos 0)
+IsSettled edges count (Numbers table) = (length table.items ≡ count) × AreMet table.items edges
+    × ((k : ℕ) → IsAbove edges table.items k) × ((k : ℕ) → number_in table.items k ≤ℤ pos 0)
 IsSettled edges count (Round places) = IsNegativeRound edges places

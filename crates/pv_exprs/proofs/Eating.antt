@@ -10,4 +10,6 @@ use Rattle.pv_exprs.proofs.Ranks.{above}
 use Rattle.pv_exprs.proofs.Exactness.{readers_known, expr_exact}
 
 pub tree_keeps : (m : Mode) (n : ℕ) → Keeps (expr m (deeper n) >>= λ a. give a.tree)
-tree_keeps m n = exact_keeps (exact_bind (sub_refl (above 8)) (expr_exact n 0 (deeper n) (omega arith) (readers_known n n 0 (omega arith)) m) (λ a. exact_give a.tree))
+tree_keeps m n =
+    exact_keeps (exact_bind (sub_refl (above 8)) (expr_exact n 0 (deeper n) (omega arith) (readers_known n n 0 (omega arith)) m)
+    (λ a. exact_give a.tree))

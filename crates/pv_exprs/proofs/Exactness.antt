@@ -12,7 +12,8 @@ use Rattle.pv_reading.specs.Marks.{Tokens, Marked, fixed_at, word_at, across}
 use Rattle.pv_reading.specs.Spelled.{Rule}
 use Rattle.pv_reading.specs.Reading.{Reading as Read, Good, Bad, Deep, onward, Parser, ◌>>=◌, give, refuse, opened, fixed, expect, is_fixed, name_of, number_of}
 use Rattle.pv_reading.proofs.Nexts.{Nexts, Sub, anything, knows, either, sub_refl, sub_anything, sub_either, sub_fixed, sub_name, sub_number, sub_table}
-use Rattle.pv_reading.proofs.Exact.{sight, pick_none, pick_else, Begins, Exact, Is, is, by_is, Then, seq, Or, AtFixed, at_fixed, AtName, at_name, AtNumber, at_number, AtEntry, at_entry, exact_as, exact_wider, exact_give, exact_bind, exact_fixed, exact_named, exact_numbered, exact_entry, exact_expect, exact_expect_name, exact_expect_number, Opening, too_deep, deep_enough, Deeper, none_deeper, one_deeper, opening_opened, makes_is, makes_then, makes_fixed, makes_name}
+use Rattle.pv_reading.proofs.Exact.{Begins, Exact, Is, is, by_is, Then, seq, Or, AtFixed, at_fixed, AtName, at_name, AtNumber, at_number, AtEntry, at_entry, exact_as, exact_wider, exact_give, exact_bind}
+use Rattle.pv_reading.proofs.Sights.{sight, pick_none, pick_else, exact_fixed, exact_named, exact_numbered, exact_entry, exact_expect, exact_expect_name, exact_expect_number, Opening, too_deep, deep_enough, Deeper, none_deeper, one_deeper, opening_opened, makes_is, makes_then, makes_fixed, makes_name}
 use Rattle.pv_reading.proofs.Loops.{Series, series_end, series_more, exact_series}
 use Rattle.pv_exprs.specs.declared.level.Mode.{Mode}
 use Rattle.pv_exprs.specs.declared.level.Mode.TheVariants.{Program, Logic}
@@ -30,273 +31,18 @@ use Rattle.pv_exprs.specs.Reading
 use Rattle.pv_exprs.specs.Reading.{Readers}
 use Rattle.pv_exprs.proofs.Ranks.{above, sub_above, starts, starts_post, sub_post, starts_other, sub_other, rank_of, rank_under, under_rank, operators_above, operators_apart}
 use Rattle.pv_exprs.proofs.Makes.{post_makes, unary_makes, operand_makes, expr_makes, formula_makes, only_makes, steps_makes, amount_makes}
-
--- what is known of the readers at depth d
-pub record Known (L d : ℕ) (r : Readers) : Type 0 where
-  pub expr : (m : Mode) → Exact L starts (above 8) (g.IsExpr m d) (r.expr m)
-  pub inside : (m : Mode) → Deeper L (suc d) (λ (q : Parser Part). Exact L starts (above 8) (g.IsExpr m (suc d)) q) (r.inside m)
-  pub operand : (m : Mode) (l : Level) → Exact L starts (above (rank_under l)) (g.IsOperand m l d) (r.operand m l)
-  pub only : (m : Mode) (l : Level) (a : Part) → Exact L (above (rank_under l)) (above (rank_of l)) (g.JoinedOnly m l d a) (r.joined_only m l a)
-  pub unary : (m : Mode) → Exact L starts (above 2) (g.IsUnary m d) (r.unary m)
-  pub post : (m : Mode) → Exact L starts_post (above 2) (g.IsPost m d) (r.post m)
-  pub steps : (m : Mode) (a : Chain) → Exact L anything (above 1) (g.StepsFrom m d a) (r.steps m a)
-  pub formula : Exact L starts (above 9) (g.IsFormula d) r.formula
-
--- what is known one deeper
-abbrev pub Knows : ℕ → ℕ → Option Readers → Type 0
-Knows L d o = Deeper L (suc d) (Known L (suc d)) o
-
--- Arguments at depth d, behind the bracket that opens them.
-
-abbrev pub ArgsRest : Mode → ℕ → Rule (List Expr × Span)
-ArgsRest m d = Or (AtFixed CLOSE_PAREN d (λ l. Is {A = List Expr × Span} ([], l))) (λ us z vs. g.IsExprs m d us z.0 z.1 vs)
-
-abbrev pub OneArg : Mode → ℕ → Rule Expr
-OneArg m d = Then (g.IsExpr m d) (λ a. Is a.tree)
-
-module _ {m : Mode} {d : ℕ} where
-  to_exprs : (us : Marked) (z : List Expr × Span) (vs : Marked) → Series COMMA CLOSE_PAREN d (OneArg m d) us z vs → g.IsExprs m d us z.0 z.1 vs
-  to_exprs us z vs (series_end (seq p is)) = g.last_arg p
-  to_exprs us z vs (series_more {vs = ws} {xs = xs} {l = l} (seq p is) t) = g.next_arg p (to_exprs ws (xs, l) vs t)
-
-  from_exprs : (us : Marked) (xs : List Expr) (l : Span) (vs : Marked) → g.IsExprs m d us xs l vs → Series COMMA CLOSE_PAREN d (OneArg m d) us (xs, l) vs
-  from_exprs us xs l vs (g.last_arg p) = series_end (seq p is)
-  from_exprs us xs l vs (g.next_arg {vs = ws} {xs = ys} p t) = series_more (seq p is) (from_exprs ws ys l vs t)
-
-  pub to_args : {s : Span} (us : Marked) (z : List Expr × Span) (vs : Marked) → ArgsRest m (suc d) us z vs → g.IsArgs m d ((fixed_at OPEN_PAREN s, suc d) ∷ us) z.0 z.1 vs
-  to_args us z vs (inl (at_fixed is)) = g.no_args
-  to_args us z vs (inr p) = g.args p
-
-  pub from_args : (us : Marked) (xs : List Expr) (l : Span) (vs : Marked) → g.IsArgs m d us xs l vs → AtFixed OPEN_PAREN (suc d) (λ s. ArgsRest m (suc d)) us (xs, l) vs
-  from_args us xs l vs g.no_args = at_fixed (inl (at_fixed is))
-  from_args us xs l vs (g.args p) = at_fixed (inr p)
-
-pub args_exact : {L d : ℕ} {m : Mode} {p : Parser Part} → d ≤ L → Exact L starts (above 8) (g.IsExpr m d) p → Exact L (either (knows (is_fixed CLOSE_PAREN)) starts) anything (ArgsRest m d) (Reading.args p)
-unfolding Reading.args
-args_exact {m = m} le P =
-    exact_as (λ us z vs. elim [ inl i ↦ inl i | inr t ↦ inr (to_exprs us z vs t) ]) (λ us z vs. elim [ inl i ↦ inl i | inr t ↦ inr (from_exprs us z.0 z.1 vs t) ])
-    (exact_fixed CLOSE_PAREN (λ l. deep_enough le (exact_give ([], l))) refl
-    (exact_series COMMA CLOSE_PAREN le (exact_bind (sub_refl (above 8)) P (λ a. exact_give a.tree)) refl refl refl))
-
-pub args_makes : (m : Mode) (d : ℕ) → Begins (ArgsRest m d) []
-args_makes m d = let w : Span = record { from = 0; to = 0 } in ((fixed_at CLOSE_PAREN w, d) ∷ [], ([], w), λ rest. inl (at_fixed is))
-
--- the rules of what the readers read beside those of the grammar
-
-abbrev pub FieldRule : Mode → ℕ → Chain → Rule Chain
-FieldRule m d a = AtName (suc d) (λ w. g.StepsFrom m (suc d) (Named (Some (part_of a)) w))
-
-abbrev pub ElementRule : Mode → ℕ → Chain → Rule Chain
-ElementRule m d a = Then (g.IsExpr m (suc (suc d))) (λ i. AtFixed CLOSE_BRACKET (suc (suc d)) (λ t. g.StepsFrom m (suc d) (Other (element_of (part_of a) i t))))
-
-abbrev pub EndedRule : Mode → ℕ → Chain → Rule Part
-EndedRule m d a = Then (g.StepsFrom m d a) (λ b. Is (part_of b))
-
-abbrev pub ArgsEnded : ℕ → Option Part → Word → Rule Part
-ArgsEnded d a w = Then (ArgsRest Logic (suc d)) (λ x. EndedRule Logic d (Other (instance_of a w x.0 x.1)))
-
-abbrev pub InstanceRule : ℕ → Chain → Rule Part
-InstanceRule d (Named a w) = Or (AtFixed OPEN_PAREN (suc d) (λ s. ArgsEnded d a w)) (Is (part_of (Named a w)))
-InstanceRule d (Other a) = Is a
-
-abbrev pub WalkRule : Mode → ℕ → Chain → Rule Part
-WalkRule Program d a = EndedRule Program d a
-WalkRule Logic d a = Then (g.StepsFrom Logic d a) (InstanceRule d)
-
-abbrev pub GroupRule : ℕ → Rule Chain
-GroupRule d = AtFixed OPEN_PAREN (suc d) (λ s. Then (g.IsExpr Program (suc d)) (λ a. AtFixed CLOSE_PAREN (suc d) (λ t. Is (Other (widened s t a)))))
-
-abbrev pub ConstantOr : ℕ → Rule Chain → Rule Chain
-ConstantOr d R = Or (AtNumber d (λ n s. Is (Other (node s (e.Number n))))) (Or (AtFixed TRUE d (λ s. Is (Other (node s (e.Truth true)))))
-    (Or (AtFixed FALSE d (λ s. Is (Other (node s (e.Truth false))))) (Or (AtFixed NULL d (λ s. Is (Other (node s e.Null)))) R)))
-
-abbrev pub AmountRule : ℕ → Rule Amount
-AmountRule d = Or (AtFixed WRITE d (λ s. Is (record { parts = 1; whole = 1; span = s })))
-    (AtNumber d (λ n s. AtFixed BACKSLASH d (λ q. AtNumber d (λ m t. Is (record { parts = n; whole = m; span = across s t })))))
-
-abbrev pub PermRule : ℕ → Span → Rule Chain
-PermRule d s = Then (g.IsPost Logic (suc d)) (λ a. AtFixed COMMA (suc d) (λ c. Then (g.IsAmount (suc d)) (λ x. AtFixed CLOSE_PAREN (suc d) (λ t. Is (Other (perm_of s a x t))))))
-
-abbrev pub RangeRule : ℕ → Rule Bounds
-RangeRule d = Then (g.IsExpr Logic d) (λ a. AtFixed DOTS d (λ t. Then (g.IsExpr Logic d) (λ b. Is (record { low = a; high = b; written = None }))))
-
-abbrev pub WrittenRule : ℕ → Rule Bounds
-WrittenRule d = Then (g.IsOperand Logic level.Comparison d) (λ a. AtFixed AT_MOST d (λ q. AtName d (λ v. AtFixed AND_AND d (λ r. AtName d (λ w. AtFixed LESS d (λ t.
-    Then (g.IsOperand Logic level.Comparison d) (λ b. Is (record { low = a; high = b; written = Some (v, w) }))))))))
-
-abbrev pub EachRule : ℕ → Bool → Span → Rule Chain
-EachRule d star s = AtFixed INT d (λ i. AtName d (λ w. Then (g.HasBounds d) (λ b. AtFixed SEMICOLON d (λ c. Then (g.IsFormula d) (λ a. AtFixed CLOSE_PAREN d (λ t. Is (Other (each_of star s w b a t))))))))
-
-abbrev pub ClosedFormula : ℕ → Span → Rule Chain
-ClosedFormula d s = Then (g.IsFormula d) (λ a. AtFixed CLOSE_PAREN d (λ t. Is (Other (widened s t a))))
-
-abbrev pub ClosedRule : ℕ → (Part → Span → Chain) → Rule Chain
-ClosedRule d f = Then (g.IsExpr Logic d) (λ a. AtFixed CLOSE_PAREN d (λ t. Is (f a t)))
-
-abbrev pub FormulaGroup : ℕ → Span → Rule Chain
-FormulaGroup d s = Or (AtEntry forall_of d (λ star t. EachRule d star s)) (ClosedFormula d s)
-
-abbrev pub LogicRule : ℕ → Rule Chain
-LogicRule d = Or (AtFixed RESULT d (λ s. Is (Other (node s e.Result))))
-    (Or (AtFixed OLD d (λ s. AtFixed OPEN_PAREN (suc d) (λ q. ClosedRule (suc d) (λ a t. Other (old_of s a t)))))
-    (Or (AtFixed PERM d (λ s. AtFixed OPEN_PAREN (suc d) (λ q. PermRule d s)))
-    (Or (AtEntry token_of d (λ y s. AtFixed OPEN_PAREN (suc d) (λ q. ClosedRule (suc d) (λ a t. Other (token_part y s a t)))))
-    (AtFixed OPEN_PAREN (suc d) (λ s. FormulaGroup (suc d) s)))))
-
-abbrev pub AtomRule : Mode → ℕ → Rule Chain
-AtomRule Program d = ConstantOr d (GroupRule d)
-AtomRule Logic d = ConstantOr d (LogicRule d)
-
-abbrev pub OtherPost : Mode → ℕ → Rule Part
-OtherPost m d = Then (AtomRule m d) (λ a. EndedRule m d a)
-
-abbrev pub PostRule : Mode → ℕ → Rule Part
-PostRule m d = Or (AtName d (λ w. WalkRule m d (Named None w))) (Or (AtFixed THIS d (λ s. WalkRule m d (Other (node s e.This)))) (OtherPost m d))
-
--- Amounts and bounds.
-
-module _ (d : ℕ) where
-  to_amount : (us : Marked) (x : Amount) (vs : Marked) → AmountRule d us x vs → g.IsAmount d us x vs
-  to_amount us x vs (inl (at_fixed is)) = g.write
-  to_amount us x vs (inr (at_number (at_fixed (at_number is)))) = g.parts
-
-  from_amount : (us : Marked) (x : Amount) (vs : Marked) → g.IsAmount d us x vs → AmountRule d us x vs
-  from_amount us x vs g.write = inl (at_fixed is)
-  from_amount us x vs g.parts = inr (at_number (at_fixed (at_number is)))
-
-  pub amount_exact : {L : ℕ} → d ≤ L → Exact L (either (knows (is_fixed WRITE)) (knows number_of)) anything (g.IsAmount d) Reading.amount
-  unfolding Reading.amount
-  amount_exact le = exact_as to_amount from_amount
-      (exact_fixed WRITE (λ s. deep_enough le (exact_give _)) refl
-      (exact_expect_number (λ n s. deep_enough le (exact_expect BACKSLASH (λ q. deep_enough le (exact_expect_number (λ m t. deep_enough le (exact_give _))))))))
-
-  to_bounds : (us : Marked) (b : Bounds) (vs : Marked) → Or (AtFixed ASSIGN d (λ s. RangeRule d)) (AtFixed SEMICOLON d (λ s. WrittenRule d)) us b vs → g.HasBounds d us b vs
-  to_bounds us b vs (inl (at_fixed (seq p (at_fixed (seq q is))))) = g.range p q
-  to_bounds us b vs (inr (at_fixed (seq p (at_fixed (at_name (at_fixed (at_name (at_fixed (seq q is))))))))) = g.written p q
-
-  from_bounds : (us : Marked) (b : Bounds) (vs : Marked) → g.HasBounds d us b vs → Or (AtFixed ASSIGN d (λ s. RangeRule d)) (AtFixed SEMICOLON d (λ s. WrittenRule d)) us b vs
-  from_bounds us b vs (g.range p q) = inl (at_fixed (seq p (at_fixed (seq q is))))
-  from_bounds us b vs (g.written p q) = inr (at_fixed (seq p (at_fixed (at_name (at_fixed (at_name (at_fixed (seq q is))))))))
-
-  bounds_makes : Begins (g.HasBounds d) []
-  bounds_makes =
-      let x = makes_fixed ASSIGN d (λ s. makes_then (expr_makes d Logic) (λ a. makes_fixed DOTS d (λ t. makes_then (expr_makes d Logic) (λ b. makes_is (record { low = a; high = b; written = None }))))) in
-      (x.0, x.1, λ rest. to_bounds _ _ _ (inl (x.2 rest)))
-
-  each_makes : (star : Bool) (s : Span) → Begins (EachRule d star s) []
-  each_makes star s = makes_fixed INT d (λ i. makes_name d (λ w. makes_then bounds_makes (λ b. makes_fixed SEMICOLON d (λ c. makes_then (formula_makes d) (λ a. makes_fixed CLOSE_PAREN d (λ t. makes_is _))))))
-
-  closed_formula_makes : (s : Span) → Begins (ClosedFormula d s) []
-  closed_formula_makes s = makes_then (formula_makes d) (λ a. makes_fixed CLOSE_PAREN d (λ t. makes_is _))
-
-  pub formula_group_makes : (s : Span) → Begins (FormulaGroup d s) []
-  formula_group_makes s = let x = closed_formula_makes s in (x.0, x.1, λ rest. inr (x.2 rest))
-
-module _ (L d : ℕ) (le : d ≤ L) (p : Readers) (K : Known L d p) where
-  bounds_exact : Exact L (either (knows (is_fixed ASSIGN)) (knows (is_fixed SEMICOLON))) (above 8) (g.HasBounds d) (Reading.bounds p)
-  unfolding Reading.bounds
-  bounds_exact = exact_as (to_bounds d) (from_bounds d)
-      (exact_fixed ASSIGN (λ s. deep_enough le (exact_bind (sub_fixed DOTS refl) (K.expr Logic) (λ a. exact_expect DOTS (λ t. deep_enough le (exact_bind (sub_refl (above 8)) (K.expr Logic) (λ b. exact_give _)))))) refl
-      (exact_expect SEMICOLON (λ s. deep_enough le (exact_bind (sub_fixed AT_MOST refl) (K.operand Logic level.Comparison) (λ a. exact_expect AT_MOST (λ q. deep_enough le (exact_expect_name (λ v. deep_enough le
-      (exact_expect AND_AND (λ r. deep_enough le (exact_expect_name (λ w. deep_enough le (exact_expect LESS (λ t. deep_enough le (exact_bind (sub_above 8 4 (omega arith)) (K.operand Logic level.Comparison) (λ b. exact_give _))))))))))))))))
-
-  quantified_exact : (star : Bool) (s : Span) → Exact L (knows (is_fixed INT)) anything (EachRule d star s) (Reading.quantified star s p)
-  unfolding Reading.quantified
-  quantified_exact star s = exact_expect INT (λ i. deep_enough le (exact_expect_name (λ w. deep_enough le
-      (exact_bind (sub_fixed SEMICOLON refl) bounds_exact (λ b. exact_expect SEMICOLON (λ c. deep_enough le (exact_bind (sub_fixed CLOSE_PAREN refl) K.formula (λ a. exact_expect CLOSE_PAREN (λ t. deep_enough le (exact_give _))))))))))
-
-  pub formula_grouped_exact : (s : Span) → Exact L (either (knows forall_of) starts) anything (FormulaGroup d s) (Reading.formula_grouped s p)
-  unfolding Reading.formula_grouped
-  formula_grouped_exact s = exact_entry forall_words (λ star t. deep_enough le (quantified_exact star s)) (refl, (refl, tt))
-      (exact_bind (sub_fixed CLOSE_PAREN refl) K.formula (λ a. exact_expect CLOSE_PAREN (λ t. deep_enough le (exact_give _))))
-
--- A name or `this` with what follows, as a postfix expression.
-
-module _ (d : ℕ) where
-  name_walk : (m : Mode) (w : Word) (us : Marked) (b : Part) (vs : Marked) → WalkRule m d (Named None w) us b vs → g.IsPost m d ((word_at w, d) ∷ us) b vs
-  name_walk Program w us b vs (seq st is) = g.post g.name st
-  name_walk Logic w us b vs (seq {a = Named a v} st (inl (at_fixed (seq {us = ys} {vs = zs} {a = z} args (seq st2 is))))) = g.post (g.instance (g.from_name st) (to_args ys z zs args)) st2
-  name_walk Logic w us b vs (seq {a = Named a v} st (inr is)) = g.post g.name st
-  name_walk Logic w us b vs (seq {a = Other a} st is) = g.post g.name st
-
-  this_walk : (m : Mode) (s : Span) (us : Marked) (b : Part) (vs : Marked) → WalkRule m d (Other (node s e.This)) us b vs → g.IsPost m d ((fixed_at THIS s, d) ∷ us) b vs
-  this_walk Program s us b vs (seq st is) = g.post g.this_word st
-  this_walk Logic s us b vs (seq {a = Named a v} st (inl (at_fixed (seq {us = ys} {vs = zs} {a = z} args (seq st2 is))))) = g.post (g.instance (g.from_this st) (to_args ys z zs args)) st2
-  this_walk Logic s us b vs (seq {a = Named a v} st (inr is)) = g.post g.this_word st
-  this_walk Logic s us b vs (seq {a = Other a} st is) = g.post g.this_word st
-
-  to_group : (us : Marked) (a : Chain) (vs : Marked) → GroupRule d us a vs → g.IsAtom Program d us a vs
-  to_group us a vs (at_fixed (seq p (at_fixed is))) = g.group p
-
-  to_logic : (us : Marked) (a : Chain) (vs : Marked) → LogicRule d us a vs → g.IsAtom Logic d us a vs
-  to_logic us a vs (inl (at_fixed is)) = g.result_word
-  to_logic us a vs (inr (inl (at_fixed (at_fixed (seq p (at_fixed i)))))) = by_is (g.IsAtom Logic d) i (g.old p)
-  to_logic us a vs (inr (inr (inl (at_fixed (at_fixed (seq p (at_fixed (seq q (at_fixed i))))))))) = by_is (g.IsAtom Logic d) i (g.perm p q)
-  to_logic us a vs (inr (inr (inr (inl (at_entry h (at_fixed (seq p (at_fixed i)))))))) = by_is (g.IsAtom Logic d) i (g.token h p)
-  to_logic us a vs (inr (inr (inr (inr (at_fixed (inl (at_entry h (at_fixed (at_name (seq p (at_fixed (seq q (at_fixed i))))))))))))) = by_is (g.IsAtom Logic d) i (g.each h p q)
-  to_logic us a vs (inr (inr (inr (inr (at_fixed (inr (seq p (at_fixed i)))))))) = by_is (g.IsAtom Logic d) i (g.formula_group p)
-
-  to_constant : (m : Mode) (R : Rule Chain) → ((us : Marked) (a : Chain) (vs : Marked) → R us a vs → g.IsAtom m d us a vs) → (us : Marked) (a : Chain) (vs : Marked) → ConstantOr d R us a vs → g.IsAtom m d us a vs
-  to_constant m R f us a vs (inl (at_number is)) = g.number
-  to_constant m R f us a vs (inr (inl (at_fixed is))) = g.true_word
-  to_constant m R f us a vs (inr (inr (inl (at_fixed is)))) = g.false_word
-  to_constant m R f us a vs (inr (inr (inr (inl (at_fixed is))))) = g.null_word
-  to_constant m R f us a vs (inr (inr (inr (inr r)))) = f us a vs r
-
-  pub to_atom : (m : Mode) (us : Marked) (a : Chain) (vs : Marked) → AtomRule m d us a vs → g.IsAtom m d us a vs
-  to_atom Program us a vs r = to_constant Program (GroupRule d) to_group us a vs r
-  to_atom Logic us a vs r = to_constant Logic (LogicRule d) to_logic us a vs r
-
-  pub to_post : (m : Mode) (us : Marked) (b : Part) (vs : Marked) → PostRule m d us b vs → g.IsPost m d us b vs
-  to_post m us b vs (inl (at_name {w = w} {us = ws} r)) = name_walk m w ws b vs r
-  to_post m us b vs (inr (inl (at_fixed {s = s} {us = ws} r))) = this_walk m s ws b vs r
-  to_post m us b vs (inr (inr (seq {vs = ws} {a = a} r (seq st is)))) = g.post (to_atom m us a ws r) st
-
-  no_instance : (a : Chain) (us : Marked) → InstanceRule d a us (part_of a) us
-  no_instance (Named a w) us = inr is
-  no_instance (Other a) us = is
-
-  from_walk : (m : Mode) (a b : Chain) (us vs : Marked) → g.StepsFrom m d a us b vs → WalkRule m d a us (part_of b) vs
-  from_walk Program a b us vs st = seq st is
-  from_walk Logic a b us vs st = seq st (no_instance b vs)
-
-  with_args : (a : Chain) (r : Option Part) (w : Word) (us vs : Marked) (xs : List Expr) (l : Span) (ws ys : Marked) (c : Chain)
-      → g.StepsFrom Logic d a us (Named r w) vs → g.IsArgs Logic d vs xs l ws → g.StepsFrom Logic d (Other (instance_of r w xs l)) ws c ys → WalkRule Logic d a us (part_of c) ys
-  with_args a r w us vs xs l ws ys c st g.no_args st2 = seq st (inl (at_fixed (seq (inl (at_fixed is)) (seq st2 is))))
-  with_args a r w us vs xs l ws ys c st (g.args p) st2 = seq st (inl (at_fixed (seq (inr p) (seq st2 is))))
-
-  with_instance : (us : Marked) (r : Option Part) (w : Word) (vs : Marked) (xs : List Expr) (l : Span) (ws ys : Marked) (c : Chain)
-      → g.IsTarget Logic d us r w vs → g.IsArgs Logic d vs xs l ws → g.StepsFrom Logic d (Other (instance_of r w xs l)) ws c ys → PostRule Logic d us (part_of c) ys
-  with_instance us r w vs xs l ws ys c (g.from_name {v = v} {us = zs} st) args st2 = inl (at_name (with_args (Named None v) r w zs vs xs l ws ys c st args st2))
-  with_instance us r w vs xs l ws ys c (g.from_this {s = s} {us = zs} st) args st2 = inr (inl (at_fixed (with_args (Other (node s e.This)) r w zs vs xs l ws ys c st args st2)))
-
-  pub from_post : (m : Mode) (us : Marked) (b : Part) (vs : Marked) → g.IsPost m d us b vs → PostRule m d us b vs
-  from_post m us b vs (g.post {us = ws} {b = c} (g.name {w = w}) st) = inl (at_name (from_walk m (Named None w) c ws vs st))
-  from_post m us b vs (g.post {us = ws} {b = c} (g.this_word {s = s}) st) = inr (inl (at_fixed (from_walk m (Other (node s e.This)) c ws vs st)))
-  from_post Program us b vs (g.post g.number st) = inr (inr (seq (inl (at_number is)) (seq st is)))
-  from_post Program us b vs (g.post g.true_word st) = inr (inr (seq (inr (inl (at_fixed is))) (seq st is)))
-  from_post Program us b vs (g.post g.false_word st) = inr (inr (seq (inr (inr (inl (at_fixed is)))) (seq st is)))
-  from_post Program us b vs (g.post g.null_word st) = inr (inr (seq (inr (inr (inr (inl (at_fixed is))))) (seq st is)))
-  from_post Program us b vs (g.post (g.group p) st) = inr (inr (seq (inr (inr (inr (inr (at_fixed (seq p (at_fixed is))))))) (seq st is)))
-  from_post Logic us b vs (g.post g.number st) = inr (inr (seq (inl (at_number is)) (seq st is)))
-  from_post Logic us b vs (g.post g.true_word st) = inr (inr (seq (inr (inl (at_fixed is))) (seq st is)))
-  from_post Logic us b vs (g.post g.false_word st) = inr (inr (seq (inr (inr (inl (at_fixed is)))) (seq st is)))
-  from_post Logic us b vs (g.post g.null_word st) = inr (inr (seq (inr (inr (inr (inl (at_fixed is))))) (seq st is)))
-  from_post Logic us b vs (g.post g.result_word st) = inr (inr (seq (inr (inr (inr (inr (inl (at_fixed is)))))) (seq st is)))
-  from_post Logic us b vs (g.post (g.old p) st) = inr (inr (seq (inr (inr (inr (inr (inr (inl (at_fixed (at_fixed (seq p (at_fixed is)))))))))) (seq st is)))
-  from_post Logic us b vs (g.post (g.perm p q) st) = inr (inr (seq (inr (inr (inr (inr (inr (inr (inl (at_fixed (at_fixed (seq p (at_fixed (seq q (at_fixed is))))))))))))) (seq st is)))
-  from_post Logic us b vs (g.post (g.token h p) st) = inr (inr (seq (inr (inr (inr (inr (inr (inr (inr (inl (at_entry h (at_fixed (seq p (at_fixed is)))))))))))) (seq st is)))
-  from_post Logic us b vs (g.post (g.each h p q) st) = inr (inr (seq (inr (inr (inr (inr (inr (inr (inr (inr (at_fixed (inl (at_entry h (at_fixed (at_name (seq p (at_fixed (seq q (at_fixed is))))))))))))))))) (seq st is)))
-  from_post Logic us b vs (g.post (g.formula_group p) st) = inr (inr (seq (inr (inr (inr (inr (inr (inr (inr (inr (at_fixed (inr (seq p (at_fixed is)))))))))))) (seq st is)))
-  from_post Logic us b vs (g.post {us = ws} {b = c} (g.instance {r = l} {w = w} {vs = zs} {a = r} {xs = xs} t args) st) = with_instance us r w zs xs l ws vs c t args st
+use Rattle.pv_exprs.proofs.Rules.{Known, Knows, args_exact, args_makes, FieldRule, ElementRule, EndedRule, ArgsEnded, InstanceRule, WalkRule, GroupRule, ConstantOr, PermRule, LogicRule, AtomRule, OtherPost, amount_exact, formula_group_makes, formula_grouped_exact, to_post, from_post}
 
 -- The parts of a level are joined at the next one.
 
 module _ {m : Mode} {d : ℕ} where
-  down_by : (l : Level) {n n' : Level} → tighter l ≡ Some n → tighter l ≡ Some n' → (us : Marked) (a : Part) (vs : Marked) → g.IsJoined m n' d us a vs → g.IsJoined m n d us a vs
-  down_by l {n = n} {n' = n'} h h' us a vs p = let e : Some n' ≡ Some n = sym h' ∙ h in let f : n' ≡ n = cc in subst (λ z. g.IsJoined m z d us a vs) f p
+  down_by : (l : Level) {n n' : Level} → tighter l ≡ Some n → tighter l ≡ Some n' → (us : Marked) (a : Part) (vs : Marked)
+      → g.IsJoined m n' d us a vs → g.IsJoined m n d us a vs
+  down_by l {n = n} {n' = n'} h h' us a vs p =
+      let e : Some n' ≡ Some n = sym h' ∙ h in let f : n' ≡ n = cc in subst (λ z. g.IsJoined m z d us a vs) f p
 
-  pub operand_down : {l n : Level} → tighter l ≡ Some n → (us : Marked) (a : Part) (vs : Marked) → g.IsOperand m l d us a vs → g.IsJoined m n d us a vs
+  pub operand_down : {l n : Level} → tighter l ≡ Some n → (us : Marked) (a : Part) (vs : Marked) → g.IsOperand m l d us a vs
+      → g.IsJoined m n d us a vs
   operand_down {l = l} h us a vs (g.level h' p) = down_by l h h' us a vs p
   operand_down {n = n} h us a vs (g.unary h' p) = let e : None ≡ Some n = sym h' ∙ h in cc
 
@@ -304,76 +50,103 @@ module _ {m : Mode} {d : ℕ} where
   unary_down us a vs (g.level {k = n} h p) = cc
   unary_down us a vs (g.unary h p) = p
 
-  level_up : {l n : Level} → tighter l ≡ Some n → (us : Marked) (b : Part) (vs : Marked) → Then (g.IsJoined m n d) (g.JoinedFrom m l d) us b vs → g.IsJoined m l d us b vs
+  level_up : {l n : Level} → tighter l ≡ Some n → (us : Marked) (b : Part) (vs : Marked)
+      → Then (g.IsJoined m n d) (g.JoinedFrom m l d) us b vs → g.IsJoined m l d us b vs
   level_up h us b vs (seq p q) = g.parts (g.level h p) q
 
-  level_down : {l n : Level} → tighter l ≡ Some n → (us : Marked) (b : Part) (vs : Marked) → g.IsJoined m l d us b vs → Then (g.IsJoined m n d) (g.JoinedFrom m l d) us b vs
+  level_down : {l n : Level} → tighter l ≡ Some n → (us : Marked) (b : Part) (vs : Marked) → g.IsJoined m l d us b vs
+      → Then (g.IsJoined m n d) (g.JoinedFrom m l d) us b vs
   level_down h us b vs (g.parts {us = ws} {a = a} p q) = seq (operand_down h us a ws p) q
 
-  product_up : (us : Marked) (b : Part) (vs : Marked) → Then (g.IsUnary m d) (g.JoinedFrom m level.Product d) us b vs → g.IsJoined m level.Product d us b vs
+  product_up : (us : Marked) (b : Part) (vs : Marked) → Then (g.IsUnary m d) (g.JoinedFrom m level.Product d) us b vs
+      → g.IsJoined m level.Product d us b vs
   product_up us b vs (seq p q) = g.parts (g.unary refl p) q
 
-  product_down : (us : Marked) (b : Part) (vs : Marked) → g.IsJoined m level.Product d us b vs → Then (g.IsUnary m d) (g.JoinedFrom m level.Product d) us b vs
+  product_down : (us : Marked) (b : Part) (vs : Marked) → g.IsJoined m level.Product d us b vs
+      → Then (g.IsUnary m d) (g.JoinedFrom m level.Product d) us b vs
   product_down us b vs (g.parts {us = ws} {a = a} p q) = seq (unary_down us a ws p) q
 
-only_more : {d : ℕ} (m : Mode) (l : Level) (a : Part) (us : Marked) (b : Part) (vs : Marked) → repeats l ≡ true → g.JoinedOnly m l d a us b vs → g.JoinedFrom m l d a us b vs
+only_more : {d : ℕ} (m : Mode) (l : Level) (a : Part) (us : Marked) (b : Part) (vs : Marked) → repeats l ≡ true
+    → g.JoinedOnly m l d a us b vs → g.JoinedFrom m l d a us b vs
 only_more m l a us b vs h (g.more h' p) = p
 only_more m l a us b vs h (g.last h') = let e : true ≡ false = sym h ∙ h' in cc
 
-only_last : {d : ℕ} (m : Mode) (l : Level) (a : Part) (us : Marked) (b : Part) (vs : Marked) → repeats l ≡ false → g.JoinedOnly m l d a us b vs → Is a us b vs
+only_last : {d : ℕ} (m : Mode) (l : Level) (a : Part) (us : Marked) (b : Part) (vs : Marked) → repeats l ≡ false
+    → g.JoinedOnly m l d a us b vs → Is a us b vs
 only_last m l a us b vs h (g.more h' p) = let e : true ≡ false = sym h' ∙ h in cc
 only_last m l a us b vs h (g.last h') = is
 
 module _ (L d : ℕ) (o : Option Readers) (le : d ≤ L) (D : Knows L d o) where
   -- steps
 
-  field_opening : (m : Mode) (a : Chain) (stop : Nexts) → Sub stop (above 1) → Opening L (suc d) stop (FieldRule m d a) (opened o (Reading.field_step m a))
+  field_opening : (m : Mode) (a : Chain) (stop : Nexts) → Sub stop (above 1)
+      → Opening L (suc d) stop (FieldRule m d a) (opened o (Reading.field_step m a))
   field_opening m a stop c = opening_opened D (makes_name (suc d) (λ w. steps_makes (suc d) m (Named (Some (part_of a)) w)))
-      (λ p le K. exact_expect_name (λ w. deep_enough le (exact_wider (sub_refl anything) c (K.steps m (Named (Some (part_of a)) w)))))
+      (λ p le K. exact_expect_name (λ w. deep_enough le
+      (exact_wider (sub_refl anything) c (K.steps m (Named (Some (part_of a)) w)))))
 
   element_makes : (m : Mode) (a : Chain) → Begins (ElementRule m d a) []
-  element_makes m a = makes_then (expr_makes (suc (suc d)) m) (λ i. makes_fixed CLOSE_BRACKET (suc (suc d)) (λ t. steps_makes (suc d) m (Other (element_of (part_of a) i t))))
+  element_makes m a =
+      makes_then (expr_makes (suc (suc d)) m) (λ i.
+      makes_fixed CLOSE_BRACKET (suc (suc d)) (λ t. steps_makes (suc d) m (Other (element_of (part_of a) i t))))
 
-  element_at : (m : Mode) (a : Chain) (stop : Nexts) → Sub stop (above 1) → (r : Readers) → suc d ≤ L → Known L (suc d) r → Opening L (suc (suc d)) stop (ElementRule m d a) (Reading.element_step m a r)
+  element_at : (m : Mode) (a : Chain) (stop : Nexts) → Sub stop (above 1) → (r : Readers) → suc d ≤ L → Known L (suc d) r
+      → Opening L (suc (suc d)) stop (ElementRule m d a) (Reading.element_step m a r)
   element_at m a stop c r lt K = opening_opened (K.inside m) (element_makes m a)
-      (λ q le E. exact_bind (sub_fixed CLOSE_BRACKET refl) E (λ i. exact_expect CLOSE_BRACKET (λ t. deep_enough le (exact_wider (sub_refl anything) c (K.steps m (Other (element_of (part_of a) i t)))))))
+      (λ q le E. exact_bind (sub_fixed CLOSE_BRACKET refl) E
+      (λ i. exact_expect CLOSE_BRACKET (λ t. deep_enough le
+      (exact_wider (sub_refl anything) c (K.steps m (Other (element_of (part_of a) i t)))))))
 
-  element_opening : (m : Mode) (a : Chain) (stop : Nexts) → Sub stop (above 1) → (o : Option Readers) → Knows L d o → Opening L (suc (suc d)) stop (ElementRule m d a) (opened o (Reading.element_step m a))
+  element_opening : (m : Mode) (a : Chain) (stop : Nexts) → Sub stop (above 1) → (o : Option Readers) → Knows L d o
+      → Opening L (suc (suc d)) stop (ElementRule m d a) (opened o (Reading.element_step m a))
   element_opening m a stop c o (none_deeper lt) = too_deep (omega (arith, lt)) (λ vs. refl) (element_makes m a)
   element_opening m a stop c o (one_deeper {r = r} lt K) = element_at m a stop c r lt K
 
-  to_steps : (m : Mode) (a : Chain) (us : Marked) (b : Chain) (vs : Marked) → Or (AtFixed DOT (suc d) (λ s. FieldRule m d a)) (Or (AtFixed OPEN_BRACKET (suc (suc d)) (λ s. ElementRule m d a)) (Is a)) us b vs → g.StepsFrom m d a us b vs
+  to_steps : (m : Mode) (a : Chain) (us : Marked) (b : Chain) (vs : Marked)
+      → Or (AtFixed DOT (suc d) (λ s. FieldRule m d a))
+      (Or (AtFixed OPEN_BRACKET (suc (suc d)) (λ s. ElementRule m d a)) (Is a)) us b vs → g.StepsFrom m d a us b vs
   to_steps m a us b vs (inl (at_fixed (at_name p))) = g.some_steps (g.field p)
   to_steps m a us b vs (inr (inl (at_fixed (seq p (at_fixed q))))) = g.some_steps (g.element p q)
   to_steps m a us b vs (inr (inr is)) = g.no_steps
 
-  from_steps : (m : Mode) (a : Chain) (us : Marked) (b : Chain) (vs : Marked) → g.StepsFrom m d a us b vs → Or (AtFixed DOT (suc d) (λ s. FieldRule m d a)) (Or (AtFixed OPEN_BRACKET (suc (suc d)) (λ s. ElementRule m d a)) (Is a)) us b vs
+  from_steps : (m : Mode) (a : Chain) (us : Marked) (b : Chain) (vs : Marked) → g.StepsFrom m d a us b vs
+      → Or (AtFixed DOT (suc d) (λ s. FieldRule m d a))
+      (Or (AtFixed OPEN_BRACKET (suc (suc d)) (λ s. ElementRule m d a)) (Is a)) us b vs
   from_steps m a us b vs g.no_steps = inr (inr is)
   from_steps m a us b vs (g.some_steps (g.field p)) = inl (at_fixed (at_name p))
   from_steps m a us b vs (g.some_steps (g.element p q)) = inr (inl (at_fixed (seq p (at_fixed q))))
 
   -- steps, where what stands behind them is in the set
-  pub steps_to : (stop : Nexts) → Sub stop (above 1) → stop (Some (k.Fixed DOT)) ≡ false → stop (Some (k.Fixed OPEN_BRACKET)) ≡ false → (m : Mode) (a : Chain)
-      → Exact L (either (knows (is_fixed DOT)) (either (knows (is_fixed OPEN_BRACKET)) stop)) stop (g.StepsFrom m d a) (Reading.steps m o a)
+  pub steps_to : (stop : Nexts) → Sub stop (above 1) → stop (Some (k.Fixed DOT)) ≡ false
+      → stop (Some (k.Fixed OPEN_BRACKET)) ≡ false → (m : Mode) (a : Chain)
+      → Exact L (either (knows (is_fixed DOT)) (either (knows (is_fixed OPEN_BRACKET)) stop)) stop (g.StepsFrom m d a)
+      (Reading.steps m o a)
   unfolding Reading.steps Reading.steps_or
   steps_to stop c h i m a = exact_as (to_steps m a) (from_steps m a)
-      (exact_fixed DOT (λ s. field_opening m a stop c) h (exact_fixed OPEN_BRACKET (λ s. element_opening m a stop c o D) i (exact_give a)))
+      (exact_fixed DOT (λ s. field_opening m a stop c) h
+      (exact_fixed OPEN_BRACKET (λ s. element_opening m a stop c o D) i (exact_give a)))
 
   pub steps_exact : (m : Mode) (a : Chain) → Exact L anything (above 1) (g.StepsFrom m d a) (Reading.steps m o a)
   steps_exact m a = exact_wider (sub_anything _) (sub_refl (above 1)) (steps_to (above 1) (sub_refl (above 1)) refl refl m a)
 
-  to_some : (m : Mode) (a : Chain) (us : Marked) (b : Chain) (vs : Marked) → Or (AtFixed DOT (suc d) (λ s. FieldRule m d a)) (AtFixed OPEN_BRACKET (suc (suc d)) (λ s. ElementRule m d a)) us b vs → g.SomeSteps m d a us b vs
+  to_some : (m : Mode) (a : Chain) (us : Marked) (b : Chain) (vs : Marked)
+      → Or (AtFixed DOT (suc d) (λ s. FieldRule m d a)) (AtFixed OPEN_BRACKET (suc (suc d)) (λ s. ElementRule m d a)) us b vs
+      → g.SomeSteps m d a us b vs
   to_some m a us b vs (inl (at_fixed (at_name p))) = g.field p
   to_some m a us b vs (inr (at_fixed (seq p (at_fixed q)))) = g.element p q
 
-  from_some : (m : Mode) (a : Chain) (us : Marked) (b : Chain) (vs : Marked) → g.SomeSteps m d a us b vs → Or (AtFixed DOT (suc d) (λ s. FieldRule m d a)) (AtFixed OPEN_BRACKET (suc (suc d)) (λ s. ElementRule m d a)) us b vs
+  from_some : (m : Mode) (a : Chain) (us : Marked) (b : Chain) (vs : Marked) → g.SomeSteps m d a us b vs
+      → Or (AtFixed DOT (suc d) (λ s. FieldRule m d a)) (AtFixed OPEN_BRACKET (suc (suc d)) (λ s. ElementRule m d a)) us b vs
   from_some m a us b vs (g.field p) = inl (at_fixed (at_name p))
   from_some m a us b vs (g.element p q) = inr (at_fixed (seq p (at_fixed q)))
 
-  pub some_steps_exact : (m : Mode) (a : Chain) → Exact L (either (knows (is_fixed DOT)) (knows (is_fixed OPEN_BRACKET))) (above 1) (g.SomeSteps m d a) (Reading.steps_or m o a refuse)
+  pub some_steps_exact : (m : Mode) (a : Chain)
+      → Exact L (either (knows (is_fixed DOT)) (knows (is_fixed OPEN_BRACKET))) (above 1) (g.SomeSteps m d a)
+      (Reading.steps_or m o a refuse)
   unfolding Reading.steps_or
   some_steps_exact m a = exact_as (to_some m a) (from_some m a)
-      (exact_fixed DOT (λ s. field_opening m a (above 1) (sub_refl (above 1))) refl (exact_expect OPEN_BRACKET (λ s. element_opening m a (above 1) (sub_refl (above 1)) o D)))
+      (exact_fixed DOT (λ s. field_opening m a (above 1) (sub_refl (above 1))) refl
+      (exact_expect OPEN_BRACKET (λ s. element_opening m a (above 1) (sub_refl (above 1)) o D)))
 
   pub ended_exact : (m : Mode) (a : Chain) → Exact L anything (above 2) (EndedRule m d a) (Reading.ended m o a)
   unfolding Reading.ended
@@ -384,13 +157,17 @@ module _ (L d : ℕ) (o : Option Readers) (le : d ≤ L) (D : Knows L d o) where
   ended_makes : (m : Mode) (a : Chain) → Begins (EndedRule m d a) []
   ended_makes m a = makes_then (steps_makes d m a) (λ b. makes_is (part_of b))
 
-  args_ended : (a : Option Part) (w : Word) → Opening L (suc d) (above 2) (ArgsEnded d a w) (opened o (Reading.instance_args o a w))
-  args_ended a w = opening_opened D (makes_then (args_makes Logic (suc d)) (λ x. ended_makes Logic (Other (instance_of a w x.0 x.1))))
-      (λ p le K. exact_bind (sub_refl anything) (args_exact le (K.expr Logic)) (λ x. ended_exact Logic (Other (instance_of a w x.0 x.1))))
+  args_ended : (a : Option Part) (w : Word)
+      → Opening L (suc d) (above 2) (ArgsEnded d a w) (opened o (Reading.instance_args o a w))
+  args_ended a w =
+      opening_opened D (makes_then (args_makes Logic (suc d)) (λ x. ended_makes Logic (Other (instance_of a w x.0 x.1))))
+      (λ p le K. exact_bind (sub_refl anything) (args_exact le (K.expr Logic))
+      (λ x. ended_exact Logic (Other (instance_of a w x.0 x.1))))
 
   instance_exact : (a : Chain) → Exact L (above 1) (above 2) (InstanceRule d a) (Reading.instance_or o a)
   unfolding Reading.instance_or
-  instance_exact (Named a w) = exact_wider (sub_either (sub_fixed OPEN_PAREN refl) (sub_above 2 1 (omega arith))) (sub_refl (above 2))
+  instance_exact (Named a w) =
+      exact_wider (sub_either (sub_fixed OPEN_PAREN refl) (sub_above 2 1 (omega arith))) (sub_refl (above 2))
       (exact_fixed OPEN_PAREN (λ s. args_ended a w) refl (exact_give (part_of (Named a w))))
   instance_exact (Other a) = exact_wider (sub_above 2 1 (omega arith)) (sub_refl (above 2)) (exact_give a)
 
@@ -401,19 +178,28 @@ module _ (L d : ℕ) (o : Option Readers) (le : d ≤ L) (D : Knows L d o) where
 
   -- other atoms
 
-  closed_makes : (m : Mode) (f : Part → Span → Chain) → Begins (Then (g.IsExpr m (suc d)) (λ a. AtFixed CLOSE_PAREN (suc d) (λ t. Is (f a t)))) []
+  closed_makes : (m : Mode) (f : Part → Span → Chain)
+      → Begins (Then (g.IsExpr m (suc d)) (λ a. AtFixed CLOSE_PAREN (suc d) (λ t. Is (f a t)))) []
   closed_makes m f = makes_then (expr_makes (suc d) m) (λ a. makes_fixed CLOSE_PAREN (suc d) (λ t. makes_is (f a t)))
 
   -- an expression and the bracket behind it
-  closed_opening : (m : Mode) (f : Part → Span → Chain) → Opening L (suc d) anything (Then (g.IsExpr m (suc d)) (λ a. AtFixed CLOSE_PAREN (suc d) (λ t. Is (f a t)))) (opened o (λ p. p.expr m >>= λ a. expect CLOSE_PAREN (λ t. give (f a t))))
-  closed_opening m f = opening_opened D (closed_makes m f) (λ p le K. exact_bind (sub_fixed CLOSE_PAREN refl) (K.expr m) (λ a. exact_expect CLOSE_PAREN (λ t. deep_enough le (exact_give (f a t)))))
+  closed_opening : (m : Mode) (f : Part → Span → Chain)
+      → Opening L (suc d) anything (Then (g.IsExpr m (suc d)) (λ a. AtFixed CLOSE_PAREN (suc d) (λ t. Is (f a t))))
+      (opened o (λ p. p.expr m >>= λ a. expect CLOSE_PAREN (λ t. give (f a t))))
+  closed_opening m f =
+      opening_opened D (closed_makes m f) (λ p le K.
+      exact_bind (sub_fixed CLOSE_PAREN refl) (K.expr m)
+      (λ a. exact_expect CLOSE_PAREN (λ t. deep_enough le (exact_give (f a t)))))
 
   group_exact : Exact L (knows (is_fixed OPEN_PAREN)) anything (GroupRule d) (Reading.group o)
   unfolding Reading.group
   group_exact = exact_expect OPEN_PAREN (λ s. closed_opening Program (λ a t. Other (widened s t a)))
 
-  constant_exact : {first : Nexts} {R : Rule Chain} {r : Parser Chain} → ((n : ℕ) → first (Some (k.Number n)) ≡ false) → first (Some (k.Fixed TRUE)) ≡ false → first (Some (k.Fixed FALSE)) ≡ false → first (Some (k.Fixed NULL)) ≡ false
-      → Exact L first anything R r → Exact L (either (knows number_of) (either (knows (is_fixed TRUE)) (either (knows (is_fixed FALSE)) (either (knows (is_fixed NULL)) first)))) anything (ConstantOr d R) (Reading.constant_or r)
+  constant_exact : {first : Nexts} {R : Rule Chain} {r : Parser Chain} → ((n : ℕ) → first (Some (k.Number n)) ≡ false)
+      → first (Some (k.Fixed TRUE)) ≡ false → first (Some (k.Fixed FALSE)) ≡ false → first (Some (k.Fixed NULL)) ≡ false
+      → Exact L first anything R r
+      → Exact L (either (knows number_of) (either (knows (is_fixed TRUE))
+      (either (knows (is_fixed FALSE)) (either (knows (is_fixed NULL)) first)))) anything (ConstantOr d R) (Reading.constant_or r)
   unfolding Reading.constant_or
   constant_exact a b c e P =
       exact_numbered (λ n s. deep_enough le (exact_give _)) a
@@ -423,31 +209,51 @@ module _ (L d : ℕ) (o : Option Readers) (le : d ≤ L) (D : Knows L d o) where
 
   perm_opening : (s : Span) → Opening L (suc d) anything (PermRule d s) (opened o (Reading.permitted s))
   perm_opening s = opening_opened D
-      (makes_then (post_makes (suc d) Logic) (λ a. makes_fixed COMMA (suc d) (λ c. makes_then (amount_makes (suc d)) (λ x. makes_fixed CLOSE_PAREN (suc d) (λ t. makes_is _)))))
+      (makes_then (post_makes (suc d) Logic) (λ a.
+      makes_fixed COMMA (suc d) (λ c. makes_then (amount_makes (suc d))
+      (λ x. makes_fixed CLOSE_PAREN (suc d) (λ t. makes_is _)))))
       (λ p le K. exact_bind (sub_fixed COMMA refl) (K.post Logic) (λ a. exact_expect COMMA (λ c. deep_enough le
-      (exact_bind (sub_fixed CLOSE_PAREN refl) (amount_exact (suc d) le) (λ x. exact_expect CLOSE_PAREN (λ t. deep_enough le (exact_give _)))))))
+      (exact_bind (sub_fixed CLOSE_PAREN refl) (amount_exact (suc d) le)
+      (λ x. exact_expect CLOSE_PAREN (λ t. deep_enough le (exact_give _)))))))
 
-  logic_exact : Exact L (either (knows (is_fixed RESULT)) (either (knows (is_fixed OLD)) (either (knows (is_fixed PERM)) (either (knows token_of) (knows (is_fixed OPEN_PAREN)))))) anything (LogicRule d) (Reading.logic_atom o)
+  logic_exact : Exact L (either (knows (is_fixed RESULT))
+      (either (knows (is_fixed OLD)) (either (knows (is_fixed PERM)) (either (knows token_of) (knows (is_fixed OPEN_PAREN))))))
+      anything (LogicRule d) (Reading.logic_atom o)
   unfolding Reading.logic_atom Reading.formula_group
   logic_exact =
       exact_fixed RESULT (λ s. deep_enough le (exact_give _)) refl
-      (exact_fixed OLD (λ s. deep_enough le (exact_expect OPEN_PAREN (λ q. closed_opening Logic (λ a t. Other (old_of s a t))))) refl
+      (exact_fixed OLD (λ s. deep_enough le (exact_expect OPEN_PAREN (λ q. closed_opening Logic (λ a t. Other (old_of s a t)))))
+      refl
       (exact_fixed PERM (λ s. deep_enough le (exact_expect OPEN_PAREN (λ q. perm_opening s))) refl
-      (exact_entry token_words (λ y s. deep_enough le (exact_expect OPEN_PAREN (λ q. closed_opening Logic (λ a t. Other (token_part y s a t))))) (refl, (refl, (refl, (refl, tt))))
-      (exact_expect OPEN_PAREN (λ s. opening_opened D (formula_group_makes (suc d) s) (λ p le K. formula_grouped_exact L (suc d) le p K s))))))
+      (exact_entry token_words (λ y s. deep_enough le
+      (exact_expect OPEN_PAREN (λ q. closed_opening Logic (λ a t. Other (token_part y s a t))))) (
+        refl,
+        (refl, (refl, (refl, tt))),
+      )
+      (exact_expect OPEN_PAREN (λ s. opening_opened D (formula_group_makes (suc d) s)
+      (λ p le K. formula_grouped_exact L (suc d) le p K s))))))
 
   -- postfix and unary expressions
 
   other_makes : (m : Mode) → Begins (AtomRule m d) []
-  other_makes Program = let w : Span = record { from = 0; to = 0 } in ((fixed_at TRUE w, d) ∷ [], _, λ rest. inr (inl (at_fixed is)))
-  other_makes Logic = let w : Span = record { from = 0; to = 0 } in ((fixed_at TRUE w, d) ∷ [], _, λ rest. inr (inl (at_fixed is)))
+  other_makes Program =
+      let w : Span = record { from = 0; to = 0 } in ((fixed_at TRUE w, d) ∷ [], _, λ rest. inr (inl (at_fixed is)))
+  other_makes Logic =
+      let w : Span = record { from = 0; to = 0 } in ((fixed_at TRUE w, d) ∷ [], _, λ rest. inr (inl (at_fixed is)))
 
   pub other_exact : (m : Mode) → Exact L starts_other anything (AtomRule m d) (Reading.atom m o)
   unfolding Reading.atom
-  other_exact Program = exact_wider (sub_either (sub_number (λ n. refl)) (sub_either (sub_fixed TRUE refl) (sub_either (sub_fixed FALSE refl) (sub_either (sub_fixed NULL refl) (sub_fixed OPEN_PAREN refl))))) (sub_refl anything)
+  other_exact Program =
+      exact_wider (sub_either (sub_number (λ n. refl))
+      (sub_either (sub_fixed TRUE refl) (sub_either (sub_fixed FALSE refl)
+      (sub_either (sub_fixed NULL refl) (sub_fixed OPEN_PAREN refl))))) (sub_refl anything)
       (constant_exact (λ n. refl) refl refl refl group_exact)
-  other_exact Logic = exact_wider (sub_either (sub_number (λ n. refl)) (sub_either (sub_fixed TRUE refl) (sub_either (sub_fixed FALSE refl) (sub_either (sub_fixed NULL refl)
-      (sub_either (sub_fixed RESULT refl) (sub_either (sub_fixed OLD refl) (sub_either (sub_fixed PERM refl) (sub_either (sub_table token_words (refl, (refl, (refl, (refl, tt))))) (sub_fixed OPEN_PAREN refl))))))))) (sub_refl anything)
+  other_exact Logic =
+      exact_wider (sub_either (sub_number (λ n. refl))
+      (sub_either (sub_fixed TRUE refl) (sub_either (sub_fixed FALSE refl) (sub_either (sub_fixed NULL refl)
+      (sub_either (sub_fixed RESULT refl) (sub_either (sub_fixed OLD refl)
+      (sub_either (sub_fixed PERM refl) (sub_either (sub_table token_words (refl, (refl, (refl, (refl, tt)))))
+      (sub_fixed OPEN_PAREN refl))))))))) (sub_refl anything)
       (constant_exact (λ n. refl) refl refl refl logic_exact)
 
   pub other_post_exact : (m : Mode) → Exact L starts_other (above 2) (OtherPost m d) (Reading.atom m o >>= Reading.ended m o)
@@ -455,69 +261,103 @@ module _ (L d : ℕ) (o : Option Readers) (le : d ≤ L) (D : Knows L d o) where
 
   pub post_exact : (m : Mode) → Exact L starts_post (above 2) (g.IsPost m d) (Reading.post m o)
   unfolding Reading.post
-  post_exact m = exact_wider (sub_either (sub_name (λ n. refl)) (sub_either (sub_fixed THIS refl) sub_other)) (sub_refl (above 2)) (exact_as (to_post d m) (from_post d m)
+  post_exact m =
+      exact_wider (sub_either (sub_name (λ n. refl)) (sub_either (sub_fixed THIS refl) sub_other)) (sub_refl (above 2))
+      (exact_as (to_post d m) (from_post d m)
       (exact_named (λ w. deep_enough le (walk_exact m (Named None w))) (λ n. refl)
       (exact_fixed THIS (λ s. deep_enough le (walk_exact m (Other (node s e.This)))) refl (other_post_exact m))))
 
-  to_unary : (m : Mode) (us : Marked) (b : Part) (vs : Marked) → Or (AtFixed BANG (suc d) (λ s. Then (g.IsUnary m (suc d)) (λ a. Is (negated s a)))) (Or (AtFixed MINUS (suc d) (λ s. Then (g.IsUnary m (suc d)) (λ a. Is (signed s a)))) (g.IsPost m d)) us b vs → g.IsUnary m d us b vs
+  to_unary : (m : Mode) (us : Marked) (b : Part) (vs : Marked)
+      → Or (AtFixed BANG (suc d) (λ s. Then (g.IsUnary m (suc d)) (λ a. Is (negated s a))))
+      (Or (AtFixed MINUS (suc d) (λ s. Then (g.IsUnary m (suc d)) (λ a. Is (signed s a)))) (g.IsPost m d)) us b vs
+      → g.IsUnary m d us b vs
   to_unary m us b vs (inl (at_fixed (seq p i))) = by_is (g.IsUnary m d) i (g.not p)
   to_unary m us b vs (inr (inl (at_fixed (seq p i)))) = by_is (g.IsUnary m d) i (g.minus p)
   to_unary m us b vs (inr (inr p)) = g.plain p
 
-  from_unary : (m : Mode) (us : Marked) (b : Part) (vs : Marked) → g.IsUnary m d us b vs → Or (AtFixed BANG (suc d) (λ s. Then (g.IsUnary m (suc d)) (λ a. Is (negated s a)))) (Or (AtFixed MINUS (suc d) (λ s. Then (g.IsUnary m (suc d)) (λ a. Is (signed s a)))) (g.IsPost m d)) us b vs
+  from_unary : (m : Mode) (us : Marked) (b : Part) (vs : Marked) → g.IsUnary m d us b vs
+      → Or (AtFixed BANG (suc d) (λ s. Then (g.IsUnary m (suc d)) (λ a. Is (negated s a))))
+      (Or (AtFixed MINUS (suc d) (λ s. Then (g.IsUnary m (suc d)) (λ a. Is (signed s a)))) (g.IsPost m d)) us b vs
   from_unary m us b vs (g.not p) = inl (at_fixed (seq p is))
   from_unary m us b vs (g.minus p) = inr (inl (at_fixed (seq p is)))
   from_unary m us b vs (g.plain p) = inr (inr p)
 
   -- what stands behind a sign
-  pub sign_opening : (m : Mode) (f : Part → Part) → Opening L (suc d) (above 2) (Then (g.IsUnary m (suc d)) (λ a. Is (f a))) (opened o (λ p. p.unary m >>= λ a. give (f a)))
-  sign_opening m f = opening_opened D (makes_then (unary_makes (suc d) m) (λ a. makes_is (f a))) (λ p le K. exact_bind (sub_refl (above 2)) (K.unary m) (λ a. exact_give (f a)))
+  pub sign_opening : (m : Mode) (f : Part → Part)
+      → Opening L (suc d) (above 2) (Then (g.IsUnary m (suc d)) (λ a. Is (f a))) (opened o (λ p. p.unary m >>= λ a. give (f a)))
+  sign_opening m f =
+      opening_opened D (makes_then (unary_makes (suc d) m) (λ a. makes_is (f a)))
+      (λ p le K. exact_bind (sub_refl (above 2)) (K.unary m) (λ a. exact_give (f a)))
 
   pub unary_exact : (m : Mode) → Exact L starts (above 2) (g.IsUnary m d) (Reading.unary m o)
   unfolding Reading.unary
-  unary_exact m = exact_wider (sub_either (sub_fixed BANG refl) (sub_either (sub_fixed MINUS refl) sub_post)) (sub_refl (above 2)) (exact_as (to_unary m) (from_unary m)
-      (exact_fixed BANG (λ s. sign_opening m (negated s)) refl (exact_fixed MINUS (λ s. sign_opening m (signed s)) refl (post_exact m))))
+  unary_exact m =
+      exact_wider (sub_either (sub_fixed BANG refl) (sub_either (sub_fixed MINUS refl) sub_post)) (sub_refl (above 2))
+      (exact_as (to_unary m) (from_unary m)
+      (exact_fixed BANG (λ s. sign_opening m (negated s)) refl
+      (exact_fixed MINUS (λ s. sign_opening m (signed s)) refl (post_exact m))))
 
   -- chains of operators
 
   abbrev Operated : Mode → Level → Part → Operator → Rule Part
   Operated m l a x = Then (g.IsOperand m l (suc d)) (λ b. g.JoinedOnly m l (suc d) (joined x a b))
 
-  operated_opening : (m : Mode) (l : Level) (a : Part) (x : Operator) → Opening L (suc d) (above (rank_of l)) (Operated m l a x) (opened o (Reading.operated m l a x))
-  operated_opening m l a x = opening_opened D (makes_then (operand_makes (suc d) m l) (λ b. only_makes (suc d) m l (joined x a b)))
+  operated_opening : (m : Mode) (l : Level) (a : Part) (x : Operator)
+      → Opening L (suc d) (above (rank_of l)) (Operated m l a x) (opened o (Reading.operated m l a x))
+  operated_opening m l a x =
+      opening_opened D (makes_then (operand_makes (suc d) m l) (λ b. only_makes (suc d) m l (joined x a b)))
       (λ p le K. exact_bind (sub_refl (above (rank_under l))) (K.operand m l) (λ b. K.only m l (joined x a b)))
 
-  to_from : (m : Mode) (l : Level) (a : Part) (us : Marked) (b : Part) (vs : Marked) → Or (AtEntry (operator_of l) (suc d) (λ x s. Operated m l a x)) (Is a) us b vs → g.JoinedFrom m l d a us b vs
+  to_from : (m : Mode) (l : Level) (a : Part) (us : Marked) (b : Part) (vs : Marked)
+      → Or (AtEntry (operator_of l) (suc d) (λ x s. Operated m l a x)) (Is a) us b vs → g.JoinedFrom m l d a us b vs
   to_from m l a us b vs (inl (at_entry h (seq p q))) = g.one_more h p q
   to_from m l a us b vs (inr is) = g.no_more
 
-  from_from : (m : Mode) (l : Level) (a : Part) (us : Marked) (b : Part) (vs : Marked) → g.JoinedFrom m l d a us b vs → Or (AtEntry (operator_of l) (suc d) (λ x s. Operated m l a x)) (Is a) us b vs
+  from_from : (m : Mode) (l : Level) (a : Part) (us : Marked) (b : Part) (vs : Marked) → g.JoinedFrom m l d a us b vs
+      → Or (AtEntry (operator_of l) (suc d) (λ x s. Operated m l a x)) (Is a) us b vs
   from_from m l a us b vs (g.one_more h p q) = inl (at_entry h (seq p q))
   from_from m l a us b vs g.no_more = inr is
 
-  narrow_from : (m : Mode) (l : Level) (a : Part) → Exact L (either (knows (operator_of l)) (above (rank_of l))) (above (rank_of l)) (g.JoinedFrom m l d a) (Reading.joined_from m l o a)
+  narrow_from : (m : Mode) (l : Level) (a : Part)
+      → Exact L (either (knows (operator_of l)) (above (rank_of l))) (above (rank_of l)) (g.JoinedFrom m l d a)
+      (Reading.joined_from m l o a)
   unfolding Reading.joined_from Reading.joined_or
-  narrow_from m l a = exact_as (to_from m l a) (from_from m l a) (exact_entry (operators l) (λ x s. operated_opening m l a x) (operators_apart l) (exact_give a))
+  narrow_from m l a =
+      exact_as (to_from m l a) (from_from m l a) (exact_entry (operators l) (λ x s. operated_opening m l a x) (operators_apart l)
+      (exact_give a))
 
-  pub from_exact : (m : Mode) (l : Level) (a : Part) → Exact L (above (rank_under l)) (above (rank_of l)) (g.JoinedFrom m l d a) (Reading.joined_from m l o a)
-  from_exact m l a = exact_wider (sub_either (sub_table (operators l) (operators_above l)) (sub_above (rank_of l) (rank_under l) (under_rank l))) (sub_refl (above (rank_of l))) (narrow_from m l a)
+  pub from_exact : (m : Mode) (l : Level) (a : Part)
+      → Exact L (above (rank_under l)) (above (rank_of l)) (g.JoinedFrom m l d a) (Reading.joined_from m l o a)
+  from_exact m l a =
+      exact_wider (sub_either (sub_table (operators l) (operators_above l)) (sub_above (rank_of l) (rank_under l) (under_rank l)))
+      (sub_refl (above (rank_of l))) (narrow_from m l a)
 
-  only_cases : (m : Mode) (l : Level) (a : Part) (b : Bool) → repeats l ≡ b → Exact L (above (rank_under l)) (above (rank_of l)) (g.JoinedOnly m l d a) (if b then Reading.joined_from m l o a else give a)
+  only_cases : (m : Mode) (l : Level) (a : Part) (b : Bool) → repeats l ≡ b
+      → Exact L (above (rank_under l)) (above (rank_of l)) (g.JoinedOnly m l d a)
+      (if b then Reading.joined_from m l o a else give a)
   only_cases m l a true h = exact_as (λ us b vs p. g.more h p) (λ us b vs p. only_more m l a us b vs h p) (from_exact m l a)
-  only_cases m l a false h = exact_wider (sub_above (rank_of l) (rank_under l) (under_rank l)) (sub_refl (above (rank_of l))) (exact_as (λ us b vs i. by_is (g.JoinedOnly m l d a) i (g.last h)) (λ us b vs p. only_last m l a us b vs h p) (exact_give a))
+  only_cases m l a false h =
+      exact_wider (sub_above (rank_of l) (rank_under l) (under_rank l)) (sub_refl (above (rank_of l)))
+      (exact_as (λ us b vs i. by_is (g.JoinedOnly m l d a) i (g.last h)) (λ us b vs p. only_last m l a us b vs h p)
+      (exact_give a))
 
-  pub only_exact : (m : Mode) (l : Level) (a : Part) → Exact L (above (rank_under l)) (above (rank_of l)) (g.JoinedOnly m l d a) (Reading.joined_only m l o a)
+  pub only_exact : (m : Mode) (l : Level) (a : Part)
+      → Exact L (above (rank_under l)) (above (rank_of l)) (g.JoinedOnly m l d a) (Reading.joined_only m l o a)
   unfolding Reading.joined_only
   only_exact m l a = only_cases m l a (repeats l) refl
 
   -- one level more
-  next_level : {m : Mode} {n l : Level} {p : Parser Part} → tighter l ≡ Some n → Sub (above (rank_under l)) (above (rank_of n)) → Exact L starts (above (rank_of n)) (g.IsJoined m n d) p
+  next_level : {m : Mode} {n l : Level} {p : Parser Part} → tighter l ≡ Some n → Sub (above (rank_under l)) (above (rank_of n))
+      → Exact L starts (above (rank_of n)) (g.IsJoined m n d) p
       → Exact L starts (above (rank_of l)) (g.IsJoined m l d) (p >>= Reading.joined_from m l o)
-  next_level {m = m} {n = n} {l = l} h c P = exact_as (λ us b vs. level_up h us b vs) (λ us b vs. level_down h us b vs) (exact_bind c P (from_exact m l))
+  next_level {m = m} {n = n} {l = l} h c P =
+      exact_as (λ us b vs. level_up h us b vs) (λ us b vs. level_down h us b vs) (exact_bind c P (from_exact m l))
 
   pub product_exact : (m : Mode) → Exact L starts (above 3) (g.IsJoined m level.Product d) (Reading.product m o)
   unfolding Reading.product
-  product_exact m = exact_as (λ us b vs. product_up us b vs) (λ us b vs. product_down us b vs) (exact_bind (sub_refl (above 2)) (unary_exact m) (from_exact m level.Product))
+  product_exact m =
+      exact_as (λ us b vs. product_up us b vs) (λ us b vs. product_down us b vs)
+      (exact_bind (sub_refl (above 2)) (unary_exact m) (from_exact m level.Product))
 
   pub sum_exact : (m : Mode) → Exact L starts (above 4) (g.IsJoined m level.Sum d) (Reading.sum m o)
   unfolding Reading.sum
@@ -539,7 +379,8 @@ module _ (L d : ℕ) (o : Option Readers) (le : d ≤ L) (D : Knows L d o) where
   unfolding Reading.expr
   expr_exact m = next_level refl (sub_refl (above 7)) (conjunction_exact m)
 
-  as_operand : {m : Mode} {n l : Level} {p : Parser Part} {stop : Nexts} → tighter l ≡ Some n → Exact L starts stop (g.IsJoined m n d) p → Exact L starts stop (g.IsOperand m l d) p
+  as_operand : {m : Mode} {n l : Level} {p : Parser Part} {stop : Nexts} → tighter l ≡ Some n
+      → Exact L starts stop (g.IsJoined m n d) p → Exact L starts stop (g.IsOperand m l d) p
   as_operand h P = exact_as (λ us b vs p. g.level h p) (λ us b vs p. operand_down h us b vs p) P
 
   pub operand_exact : (m : Mode) (l : Level) → Exact L starts (above (rank_under l)) (g.IsOperand m l d) (Reading.operand m l o)
@@ -555,34 +396,48 @@ module _ (L d : ℕ) (o : Option Readers) (le : d ≤ L) (D : Knows L d o) where
   -- formulas
 
   abbrev LevelRest : Part → Rule Part
-  LevelRest a = Or (AtEntry (operator_of level.Disjunction) (suc d) (λ x s. Operated Logic level.Disjunction a x)) (g.JoinedFrom Logic level.Separation d a)
+  LevelRest a =
+      Or (AtEntry (operator_of level.Disjunction) (suc d) (λ x s. Operated Logic level.Disjunction a x))
+      (g.JoinedFrom Logic level.Separation d a)
 
   level_from_exact : (a : Part) → Exact L (above 7) (above 8) (LevelRest a) (Reading.level_from o a)
   unfolding Reading.level_from Reading.joined_or
-  level_from_exact a = exact_wider (sub_either (sub_table (operators level.Disjunction) (refl, tt)) (sub_either (sub_table (operators level.Separation) (refl, tt)) (sub_above 8 7 (omega arith)))) (sub_refl (above 8))
-      (exact_entry (operators level.Disjunction) (λ x s. operated_opening Logic level.Disjunction a x) (refl, tt) (narrow_from Logic level.Separation a))
+  level_from_exact a =
+      exact_wider (sub_either (sub_table (operators level.Disjunction) (refl, tt))
+      (sub_either (sub_table (operators level.Separation) (refl, tt)) (sub_above 8 7 (omega arith)))) (sub_refl (above 8))
+      (exact_entry (operators level.Disjunction) (λ x s. operated_opening Logic level.Disjunction a x) (refl, tt)
+      (narrow_from Logic level.Separation a))
 
-  to_level : (us : Marked) (b : Part) (vs : Marked) → Then (g.IsJoined Logic level.Conjunction d) LevelRest us b vs → g.IsLevel d us b vs
+  to_level : (us : Marked) (b : Part) (vs : Marked) → Then (g.IsJoined Logic level.Conjunction d) LevelRest us b vs
+      → g.IsLevel d us b vs
   to_level us b vs (seq p (inl (at_entry h (seq q r)))) = g.disjunction (g.parts (g.level refl p) (g.one_more h q r))
   to_level us b vs (seq p (inr q)) = g.separation (g.parts (g.level refl p) q)
 
-  from_level : (us : Marked) (b : Part) (vs : Marked) → g.IsLevel d us b vs → Then (g.IsJoined Logic level.Conjunction d) LevelRest us b vs
+  from_level : (us : Marked) (b : Part) (vs : Marked) → g.IsLevel d us b vs
+      → Then (g.IsJoined Logic level.Conjunction d) LevelRest us b vs
   from_level us b vs (g.disjunction (g.parts {us = ws} {a = a} p g.no_more)) = seq (operand_down refl us a ws p) (inr g.no_more)
-  from_level us b vs (g.disjunction (g.parts {us = ws} {a = a} p (g.one_more h q r))) = seq (operand_down refl us a ws p) (inl (at_entry h (seq q r)))
+  from_level us b vs (g.disjunction (g.parts {us = ws} {a = a} p (g.one_more h q r))) =
+      seq (operand_down refl us a ws p) (inl (at_entry h (seq q r)))
   from_level us b vs (g.separation (g.parts {us = ws} {a = a} p q)) = seq (operand_down refl us a ws p) (inr q)
 
-  to_implies : (a : Part) (us : Marked) (b : Part) (vs : Marked) → Or (AtFixed IMPLIES (suc d) (λ s. Then (g.IsFormula (suc d)) (λ b. Is (joined op.Implies a b)))) (Is a) us b vs → g.ImpliesFrom d a us b vs
+  to_implies : (a : Part) (us : Marked) (b : Part) (vs : Marked)
+      → Or (AtFixed IMPLIES (suc d) (λ s. Then (g.IsFormula (suc d)) (λ b. Is (joined op.Implies a b)))) (Is a) us b vs
+      → g.ImpliesFrom d a us b vs
   to_implies a us b vs (inl (at_fixed (seq p i))) = by_is (g.ImpliesFrom d a) i (g.implies p)
   to_implies a us b vs (inr is) = g.no_implies
 
-  from_implies : (a : Part) (us : Marked) (b : Part) (vs : Marked) → g.ImpliesFrom d a us b vs → Or (AtFixed IMPLIES (suc d) (λ s. Then (g.IsFormula (suc d)) (λ b. Is (joined op.Implies a b)))) (Is a) us b vs
+  from_implies : (a : Part) (us : Marked) (b : Part) (vs : Marked) → g.ImpliesFrom d a us b vs
+      → Or (AtFixed IMPLIES (suc d) (λ s. Then (g.IsFormula (suc d)) (λ b. Is (joined op.Implies a b)))) (Is a) us b vs
   from_implies a us b vs (g.implies p) = inl (at_fixed (seq p is))
   from_implies a us b vs g.no_implies = inr is
 
   implies_exact : (a : Part) → Exact L (above 8) (above 9) (g.ImpliesFrom d a) (Reading.implies_from o a)
   unfolding Reading.implies_from
-  implies_exact a = exact_wider (sub_either (sub_fixed IMPLIES refl) (sub_above 9 8 (omega arith))) (sub_refl (above 9)) (exact_as (to_implies a) (from_implies a)
-      (exact_fixed IMPLIES (λ s. opening_opened D (makes_then (formula_makes (suc d)) (λ b. makes_is (joined op.Implies a b))) (λ p le K. exact_bind (sub_refl (above 9)) K.formula (λ b. exact_give (joined op.Implies a b)))) refl (exact_give a)))
+  implies_exact a =
+      exact_wider (sub_either (sub_fixed IMPLIES refl) (sub_above 9 8 (omega arith))) (sub_refl (above 9))
+      (exact_as (to_implies a) (from_implies a)
+      (exact_fixed IMPLIES (λ s. opening_opened D (makes_then (formula_makes (suc d)) (λ b. makes_is (joined op.Implies a b)))
+      (λ p le K. exact_bind (sub_refl (above 9)) K.formula (λ b. exact_give (joined op.Implies a b)))) refl (exact_give a)))
 
   to_formula : (us : Marked) (b : Part) (vs : Marked) → Then (g.IsLevel d) (g.ImpliesFrom d) us b vs → g.IsFormula d us b vs
   to_formula us b vs (seq p q) = g.formula p q
@@ -601,27 +456,38 @@ abbrev pub JoinedRest : Mode → ℕ → (Part → Rule Part) → Level → Part
 JoinedRest m d X l a = Then (X a) (g.JoinedFrom m l d)
 
 abbrev pub RestRule : Mode → ℕ → Part → Rule Part
-RestRule m d = JoinedRest m d (JoinedRest m d (JoinedRest m d (JoinedRest m d (JoinedRest m d (g.JoinedFrom m level.Product d) level.Sum) level.Comparison) level.Equality) level.Conjunction) level.Disjunction
+RestRule m d =
+    JoinedRest m d (JoinedRest m d (JoinedRest m d
+    (JoinedRest m d (JoinedRest m d (g.JoinedFrom m level.Product d) level.Sum) level.Comparison) level.Equality)
+    level.Conjunction) level.Disjunction
 
 module _ (m : Mode) (d : ℕ) where
   pub to_expr : (us ws vs : Marked) (a b : Part) → g.IsUnary m d us a ws → RestRule m d a ws b vs → g.IsExpr m d us b vs
   to_expr us ws vs a b u (seq (seq (seq (seq (seq p q) r) s) t) v) =
-      g.parts (g.level refl (g.parts (g.level refl (g.parts (g.level refl (g.parts (g.level refl (g.parts (g.level refl (g.parts (g.unary refl u) p)) q)) r)) s)) t)) v
+      g.parts (g.level refl (g.parts (g.level refl
+      (g.parts (g.level refl (g.parts (g.level refl (g.parts (g.level refl (g.parts (g.unary refl u) p)) q)) r)) s)) t)) v
 
-  attach : (X : Part → Rule Part) (l : Level) (us ws vs : Marked) (a b : Part) → Then (g.IsUnary m d) X us a ws → g.JoinedFrom m l d a ws b vs → Then (g.IsUnary m d) (JoinedRest m d X l) us b vs
+  attach : (X : Part → Rule Part) (l : Level) (us ws vs : Marked) (a b : Part) → Then (g.IsUnary m d) X us a ws
+      → g.JoinedFrom m l d a ws b vs → Then (g.IsUnary m d) (JoinedRest m d X l) us b vs
   attach X l us ws vs a b (seq u x) q = seq u (seq x q)
 
-  rest_step : (X : Part → Rule Part) {n l : Level} → tighter l ≡ Some n → ((us : Marked) (a : Part) (vs : Marked) → g.IsJoined m n d us a vs → Then (g.IsUnary m d) X us a vs)
+  rest_step : (X : Part → Rule Part) {n l : Level} → tighter l ≡ Some n
+      → ((us : Marked) (a : Part) (vs : Marked) → g.IsJoined m n d us a vs → Then (g.IsUnary m d) X us a vs)
       → (us : Marked) (b : Part) (vs : Marked) → g.IsJoined m l d us b vs → Then (g.IsUnary m d) (JoinedRest m d X l) us b vs
-  rest_step X {l = l} h f us b vs (g.parts {us = ws} {a = a} p q) = attach X l us ws vs a b (f us a ws (operand_down h us a ws p)) q
+  rest_step X {l = l} h f us b vs (g.parts {us = ws} {a = a} p q) =
+      attach X l us ws vs a b (f us a ws (operand_down h us a ws p)) q
 
   pub from_expr : (us : Marked) (b : Part) (vs : Marked) → g.IsExpr m d us b vs → Then (g.IsUnary m d) (RestRule m d) us b vs
-  from_expr us b vs p = rest_step _ refl (rest_step _ refl (rest_step _ refl (rest_step _ refl (rest_step _ refl (λ us b vs. product_down us b vs))))) us b vs p
+  from_expr us b vs p =
+      rest_step _ refl (rest_step _ refl (rest_step _ refl
+      (rest_step _ refl (rest_step _ refl (λ us b vs. product_down us b vs))))) us b vs p
 
 -- An expression that begins neither with a name nor with `this`.
 
 abbrev pub OtherUnary : Mode → ℕ → Rule Part
-OtherUnary m d = Or (AtFixed BANG (suc d) (λ s. Then (g.IsUnary m (suc d)) (λ a. Is (negated s a)))) (Or (AtFixed MINUS (suc d) (λ s. Then (g.IsUnary m (suc d)) (λ a. Is (signed s a)))) (OtherPost m d))
+OtherUnary m d =
+    Or (AtFixed BANG (suc d) (λ s. Then (g.IsUnary m (suc d)) (λ a. Is (negated s a))))
+    (Or (AtFixed MINUS (suc d) (λ s. Then (g.IsUnary m (suc d)) (λ a. Is (signed s a)))) (OtherPost m d))
 
 abbrev pub other_unary : Mode → Option Readers → Parser Part
 other_unary m o =
@@ -636,49 +502,65 @@ module _ (L d : ℕ) (o : Option Readers) (le : d ≤ L) (D : Knows L d o) (m : 
   pub rest_exact : (a : Part) → Exact L (above 2) (above 8) (RestRule m d a) (Reading.rest_of_expr m o a)
   unfolding Reading.rest_of_expr
   rest_exact a =
-      exact_bind (sub_refl (above 7)) (exact_bind (sub_refl (above 6)) (exact_bind (sub_refl (above 5)) (exact_bind (sub_refl (above 4)) (exact_bind (sub_refl (above 3))
-      (from_exact L d o le D m level.Product a) (from_exact L d o le D m level.Sum)) (from_exact L d o le D m level.Comparison)) (from_exact L d o le D m level.Equality)) (from_exact L d o le D m level.Conjunction))
+      exact_bind (sub_refl (above 7)) (exact_bind (sub_refl (above 6))
+      (exact_bind (sub_refl (above 5)) (exact_bind (sub_refl (above 4)) (exact_bind (sub_refl (above 3))
+      (from_exact L d o le D m level.Product a) (from_exact L d o le D m level.Sum)) (from_exact L d o le D m level.Comparison))
+      (from_exact L d o le D m level.Equality)) (from_exact L d o le D m level.Conjunction))
       (from_exact L d o le D m level.Disjunction)
 
-  pub other_expr_exact : Exact L (either (knows (is_fixed BANG)) (either (knows (is_fixed MINUS)) starts_other)) (above 8) (Then (OtherUnary m d) (RestRule m d)) (other_expr m o)
+  pub other_expr_exact : Exact L (either (knows (is_fixed BANG)) (either (knows (is_fixed MINUS)) starts_other)) (above 8)
+      (Then (OtherUnary m d) (RestRule m d)) (other_expr m o)
   other_expr_exact = exact_bind (sub_refl (above 2))
-      (exact_fixed BANG (λ s. sign_opening L d o le D m (negated s)) refl (exact_fixed MINUS (λ s. sign_opening L d o le D m (signed s)) refl (other_post_exact L d o le D m))) rest_exact
+      (exact_fixed BANG (λ s. sign_opening L d o le D m (negated s)) refl
+      (exact_fixed MINUS (λ s. sign_opening L d o le D m (signed s)) refl (other_post_exact L d o le D m))) rest_exact
 
 -- Where neither stands here, that is how expressions are read.
 
 module _ (m : Mode) (o : Option Readers) where
-  other_post_is : (ts : Tokens) → sight name_of ts ≡ None → sight (is_fixed THIS) ts ≡ None → Reading.post m o ts ≡ (Reading.atom m o >>= Reading.ended m o) ts
+  other_post_is : (ts : Tokens) → sight name_of ts ≡ None → sight (is_fixed THIS) ts ≡ None
+      → Reading.post m o ts ≡ (Reading.atom m o >>= Reading.ended m o) ts
   unfolding Reading.post
   other_post_is ts h g =
-      pick_none name_of (λ n s. Reading.walk m o (Named None (record { name = n; span = s }))) (fixed THIS (λ s. Reading.walk m o (Other (node s e.This))) (Reading.atom m o >>= Reading.ended m o)) ts h
+      pick_none name_of (λ n s. Reading.walk m o (Named None (record { name = n; span = s })))
+      (fixed THIS (λ s. Reading.walk m o (Other (node s e.This))) (Reading.atom m o >>= Reading.ended m o)) ts h
       ∙ pick_none (is_fixed THIS) (λ t s. Reading.walk m o (Other (node s e.This))) (Reading.atom m o >>= Reading.ended m o) ts g
 
-  other_unary_is : (ts : Tokens) → sight name_of ts ≡ None → sight (is_fixed THIS) ts ≡ None → Reading.unary m o ts ≡ other_unary m o ts
+  other_unary_is : (ts : Tokens) → sight name_of ts ≡ None → sight (is_fixed THIS) ts ≡ None
+      → Reading.unary m o ts ≡ other_unary m o ts
   unfolding Reading.unary
   other_unary_is ts h g =
       pick_else (is_fixed BANG) (λ t s. opened o (λ p. p.unary m >>= λ a. give (negated s a)))
       (fixed MINUS (λ s. opened o (λ p. p.unary m >>= λ a. give (signed s a))) (Reading.post m o))
       (fixed MINUS (λ s. opened o (λ p. p.unary m >>= λ a. give (signed s a))) (Reading.atom m o >>= Reading.ended m o)) ts (λ n.
-      pick_else (is_fixed MINUS) (λ t s. opened o (λ p. p.unary m >>= λ a. give (signed s a))) (Reading.post m o) (Reading.atom m o >>= Reading.ended m o) ts (λ n. other_post_is ts h g))
+      pick_else (is_fixed MINUS) (λ t s. opened o (λ p. p.unary m >>= λ a. give (signed s a))) (Reading.post m o)
+      (Reading.atom m o >>= Reading.ended m o) ts (λ n. other_post_is ts h g))
 
-  rest_is : (x : Read Part) → onward (Reading.rest_of_expr m o) x ≡ onward (Reading.joined_from m level.Disjunction o) (onward (Reading.joined_from m level.Conjunction o) (onward (Reading.joined_from m level.Equality o)
-      (onward (Reading.joined_from m level.Comparison o) (onward (Reading.joined_from m level.Sum o) (onward (Reading.joined_from m level.Product o) x)))))
+  rest_is : (x : Read Part)
+      → onward (Reading.rest_of_expr m o) x ≡ onward (Reading.joined_from m level.Disjunction o)
+      (onward (Reading.joined_from m level.Conjunction o) (onward (Reading.joined_from m level.Equality o)
+      (onward (Reading.joined_from m level.Comparison o)
+      (onward (Reading.joined_from m level.Sum o) (onward (Reading.joined_from m level.Product o) x)))))
   unfolding Reading.rest_of_expr
   rest_is (Good a us) = refl
   rest_is (Bad j) = refl
   rest_is (Deep j) = refl
 
-  pub other_expr_is : (ts : Tokens) → sight name_of ts ≡ None → sight (is_fixed THIS) ts ≡ None → Reading.expr m o ts ≡ other_expr m o ts
+  pub other_expr_is : (ts : Tokens) → sight name_of ts ≡ None → sight (is_fixed THIS) ts ≡ None
+      → Reading.expr m o ts ≡ other_expr m o ts
   unfolding Reading.expr Reading.conjunction Reading.equality Reading.comparison Reading.sum Reading.product
   other_expr_is ts h g =
-      ap (λ x. onward (Reading.joined_from m level.Disjunction o) (onward (Reading.joined_from m level.Conjunction o) (onward (Reading.joined_from m level.Equality o)
-      (onward (Reading.joined_from m level.Comparison o) (onward (Reading.joined_from m level.Sum o) (onward (Reading.joined_from m level.Product o) x)))))) (other_unary_is ts h g)
+      ap (λ x. onward (Reading.joined_from m level.Disjunction o)
+      (onward (Reading.joined_from m level.Conjunction o) (onward (Reading.joined_from m level.Equality o)
+      (onward (Reading.joined_from m level.Comparison o)
+      (onward (Reading.joined_from m level.Sum o) (onward (Reading.joined_from m level.Product o) x))))))
+      (other_unary_is ts h g)
       ∙ sym (rest_is (other_unary m o ts))
 
 -- All readers, at each depth.
 
 module _ (L d : ℕ) (le : d ≤ L) where
-  inside_exact : (o : Option Readers) → Knows L d o → (m : Mode) → Deeper L (suc d) (λ (q : Parser Part). Exact L starts (above 8) (g.IsExpr m (suc d)) q) (Reading.inside_of m o)
+  inside_exact : (o : Option Readers) → Knows L d o → (m : Mode)
+      → Deeper L (suc d) (λ (q : Parser Part). Exact L starts (above 8) (g.IsExpr m (suc d)) q) (Reading.inside_of m o)
   inside_exact o (none_deeper lt) m = none_deeper lt
   inside_exact o (one_deeper lt K) m = one_deeper lt (K.expr m)
 
@@ -697,4 +579,6 @@ module _ (L d : ℕ) (le : d ≤ L) where
 pub readers_known : (n L d : ℕ) → L ≡ d + n → Knows L d (Reading.deeper n)
 unfolding Reading.deeper
 readers_known zero L d e = none_deeper (omega arith)
-readers_known (suc n) L d e = let le : suc d ≤ L = omega arith in one_deeper le (known_readers L (suc d) le (Reading.deeper n) (readers_known n L (suc d) (omega arith)))
+readers_known (suc n) L d e =
+    let le : suc d ≤ L = omega arith in
+    one_deeper le (known_readers L (suc d) le (Reading.deeper n) (readers_known n L (suc d) (omega arith)))

@@ -29,7 +29,8 @@ height_falls level.Disjunction k h = let e : k ≡ level.Conjunction = cc in rw 
 height_falls level.Separation k h = let e : k ≡ level.Conjunction = cc in rw e (omega arith)
 
 -- what is read before the operators of a level
-pub operand_joined : (m : Mode) (l k : Level) (o : Option Readers) (ts : Tokens) → Some k ≡ tighter l → reads.operand m l o ts ≡ (reads.operand m k o >>= reads.joined_from m k o) ts
+pub operand_joined : (m : Mode) (l k : Level) (o : Option Readers) (ts : Tokens) → Some k ≡ tighter l
+    → reads.operand m l o ts ≡ (reads.operand m k o >>= reads.joined_from m k o) ts
 unfolding reads.operand reads.product reads.sum reads.comparison reads.equality reads.conjunction
 operand_joined m level.Product k o ts h = cc
 operand_joined m level.Sum k o ts h = let e : k ≡ level.Product = cc in rw e refl
@@ -39,7 +40,8 @@ operand_joined m level.Conjunction k o ts h = let e : k ≡ level.Equality = cc 
 operand_joined m level.Disjunction k o ts h = let e : k ≡ level.Conjunction = cc in rw e refl
 operand_joined m level.Separation k o ts h = let e : k ≡ level.Conjunction = cc in rw e refl
 
-pub operand_unary : (m : Mode) (l : Level) (o : Option Readers) (ts : Tokens) → None ≡ tighter l → reads.operand m l o ts ≡ reads.unary m o ts
+pub operand_unary : (m : Mode) (l : Level) (o : Option Readers) (ts : Tokens) → None ≡ tighter l
+    → reads.operand m l o ts ≡ reads.unary m o ts
 unfolding reads.operand
 operand_unary m level.Product o ts h = refl
 operand_unary m level.Sum o ts h = cc

@@ -6,3 +6,4 @@ pub mod Makes
 pub mod Ranks
 pub mod Rooms
 pub mod Trees
+pub mod Rules

@@ -32,7 +32,8 @@ module _ (d : ℕ) where
   sure_unary : (m : Mode) (rest : Marked) → g.IsUnary m d (word rest) sure rest
   sure_unary m rest = g.plain (sure_post m rest)
 
-  alone : {m : Mode} {l : Level} (rest : Marked) → g.IsOperand m l d (word rest) sure rest → g.IsJoined m l d (word rest) sure rest
+  alone : {m : Mode} {l : Level} (rest : Marked) → g.IsOperand m l d (word rest) sure rest
+      → g.IsJoined m l d (word rest) sure rest
   alone rest p = g.parts p g.no_more
 
   sure_sum : (m : Mode) (rest : Marked) → g.IsOperand m level.Sum d (word rest) sure rest

@@ -12,8 +12,11 @@ use Rattle.pv_exprs.specs.declared.level.Level.TheVariants as level
 use Rattle.pv_exprs.specs.Operators.{operators}
 
 abbrev pub ranks : List (ℕ × ℕ)
-ranks = (DOT, 1) ∷ (OPEN_BRACKET, 1) ∷ (OPEN_PAREN, 2) ∷ (STAR, 3) ∷ (PLUS, 4) ∷ (MINUS, 4) ∷ (LESS, 5) ∷ (AT_MOST, 5) ∷ (GREATER, 5) ∷ (AT_LEAST, 5)
-    ∷ (EQUAL, 6) ∷ (NOT_EQUAL, 6) ∷ (AND_AND, 7) ∷ (OR_OR, 8) ∷ (STAR_STAR, 8) ∷ (IMPLIES, 9) ∷ (ELSE, 10) ∷ (REQUIRES, 10) ∷ (ENSURES, 10) ∷ (CONTEXT, 10) ∷ (LOOP_INVARIANT, 11) ∷ []
+ranks =
+    (DOT, 1) ∷ (OPEN_BRACKET, 1) ∷ (OPEN_PAREN, 2) ∷ (STAR, 3) ∷ (PLUS, 4) ∷ (MINUS, 4) ∷ (LESS, 5) ∷ (AT_MOST, 5) ∷ (GREATER, 5)
+    ∷ (AT_LEAST, 5)
+    ∷ (EQUAL, 6) ∷ (NOT_EQUAL, 6) ∷ (AND_AND, 7) ∷ (OR_OR, 8) ∷ (STAR_STAR, 8) ∷ (IMPLIES, 9) ∷ (ELSE, 10) ∷ (REQUIRES, 10)
+    ∷ (ENSURES, 10) ∷ (CONTEXT, 10) ∷ (LOOP_INVARIANT, 11) ∷ []
 
 abbrev pub rank_in : Option ℕ → ℕ
 rank_in None = 12
@@ -38,9 +41,12 @@ above_less n m le (Some (k.Fixed j)) h =
 pub sub_above : (n m : ℕ) → m ≤ n → Sub (above n) (above m)
 sub_above n m le = record { has = above_less n m le }
 
--- what may begin an expression or a formula; one without a sign before it; and one that begins neither so nor with a name or `this`
+-- what may begin an expression or a formula; one without a sign before it; and one that begins neither so nor with a name or
+-- `this`
 abbrev pub begins_other : List (ℕ × Unit {0})
-begins_other = (NULL, tt) ∷ (TRUE, tt) ∷ (FALSE, tt) ∷ (PERM, tt) ∷ (IDLE, tt) ∷ (RUNNING, tt) ∷ (COMMITTED, tt) ∷ (UNCOMMITTED, tt) ∷ (RESULT, tt) ∷ (OLD, tt) ∷ (OPEN_PAREN, tt) ∷ []
+begins_other =
+    (NULL, tt) ∷ (TRUE, tt) ∷ (FALSE, tt) ∷ (PERM, tt) ∷ (IDLE, tt) ∷ (RUNNING, tt) ∷ (COMMITTED, tt) ∷ (UNCOMMITTED, tt)
+    ∷ (RESULT, tt) ∷ (OLD, tt) ∷ (OPEN_PAREN, tt) ∷ []
 
 abbrev pub begins_post : List (ℕ × Unit {0})
 begins_post = (THIS, tt) ∷ begins_other
@@ -72,7 +78,9 @@ post_starts_too : (o : Option LexemeKind) → starts_post o ≡ true → starts 
 post_starts_too None h = cc
 post_starts_too (Some (k.Named x)) h = refl
 post_starts_too (Some (k.Number x)) h = refl
-post_starts_too (Some (k.Fixed j)) h = there_later (nat_eq j MINUS) tt (entry_of ((BANG, tt) ∷ begins_post) j) (there_later (nat_eq j BANG) tt (entry_of begins_post j) h)
+post_starts_too (Some (k.Fixed j)) h =
+    there_later (nat_eq j MINUS) tt (entry_of ((BANG, tt) ∷ begins_post) j)
+    (there_later (nat_eq j BANG) tt (entry_of begins_post j) h)
 
 abbrev pub starts_other : Nexts
 starts_other None = false

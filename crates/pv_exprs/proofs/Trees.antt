@@ -28,39 +28,50 @@ abbrev pub formula_reader : ℕ → Parser Expr
 formula_reader depth = as_tree (formula (deeper (limit - depth)))
 
 module _ (depth : ℕ) where
-  to_expression : (us : Marked) (e : Expr) (vs : Marked) → Then (g.IsExpr Program depth) (λ a. Is a.tree) us e vs → IsExpressionTree depth us e vs
+  to_expression : (us : Marked) (e : Expr) (vs : Marked) → Then (g.IsExpr Program depth) (λ a. Is a.tree) us e vs
+      → IsExpressionTree depth us e vs
   to_expression us e vs (seq p i) = by_is (IsExpressionTree depth) i (spelled.expression p)
 
-  from_expression : (us : Marked) (e : Expr) (vs : Marked) → IsExpressionTree depth us e vs → Then (g.IsExpr Program depth) (λ a. Is a.tree) us e vs
+  from_expression : (us : Marked) (e : Expr) (vs : Marked) → IsExpressionTree depth us e vs
+      → Then (g.IsExpr Program depth) (λ a. Is a.tree) us e vs
   from_expression us e vs (spelled.expression p) = seq p is
 
-  to_formula : (us : Marked) (e : Expr) (vs : Marked) → Then (g.IsFormula depth) (λ a. Is a.tree) us e vs → IsFormulaTree depth us e vs
+  to_formula : (us : Marked) (e : Expr) (vs : Marked) → Then (g.IsFormula depth) (λ a. Is a.tree) us e vs
+      → IsFormulaTree depth us e vs
   to_formula us e vs (seq p i) = by_is (IsFormulaTree depth) i (spelled.formula p)
 
-  from_formula : (us : Marked) (e : Expr) (vs : Marked) → IsFormulaTree depth us e vs → Then (g.IsFormula depth) (λ a. Is a.tree) us e vs
+  from_formula : (us : Marked) (e : Expr) (vs : Marked) → IsFormulaTree depth us e vs
+      → Then (g.IsFormula depth) (λ a. Is a.tree) us e vs
   from_formula us e vs (spelled.formula p) = seq p is
 
-pub expression_exact : (depth : ℕ) → depth ≤ limit → Exact limit starts (above 8) (IsExpressionTree depth) (expression_reader depth)
+pub expression_exact : (depth : ℕ) → depth ≤ limit
+    → Exact limit starts (above 8) (IsExpressionTree depth) (expression_reader depth)
 expression_exact depth le = exact_as (to_expression depth) (from_expression depth)
-    (exact_bind (sub_refl (above 8)) (expr_exact limit depth (deeper (limit - depth)) le (readers_known (limit - depth) limit depth (omega arith)) Program) (λ a. exact_give a.tree))
+    (exact_bind (sub_refl (above 8)) (expr_exact limit depth (deeper (limit - depth)) le
+    (readers_known (limit - depth) limit depth (omega arith)) Program) (λ a. exact_give a.tree))
 
 pub formula_tree_exact : (depth : ℕ) → depth ≤ limit → Exact limit starts (above 9) (IsFormulaTree depth) (formula_reader depth)
 formula_tree_exact depth le = exact_as (to_formula depth) (from_formula depth)
-    (exact_bind (sub_refl (above 9)) (formula_exact limit depth (deeper (limit - depth)) le (readers_known (limit - depth) limit depth (omega arith))) (λ a. exact_give a.tree))
+    (exact_bind (sub_refl (above 9)) (formula_exact limit depth (deeper (limit - depth)) le
+    (readers_known (limit - depth) limit depth (omega arith))) (λ a. exact_give a.tree))
 
 fails_as_tree : (p : Parser Part) (ts : Tokens) (f : ReadFault) → Fails f (p ts) → Fails f (as_tree p ts)
 fails_as_tree p ts (fault.Unexpected left) h = ap (onward (λ a. give a.tree)) h
 fails_as_tree p ts (fault.TooDeep left) h = ap (onward (λ a. give a.tree)) h
 fails_as_tree p ts fault.NoMemory h = tt
 
-pub expression_good : (depth : ℕ) (ts us : Tokens) (a : Part) → expr Program (deeper (limit - depth)) ts ≡ Good a us → expression_reader depth ts ≡ Good a.tree us
+pub expression_good : (depth : ℕ) (ts us : Tokens) (a : Part) → expr Program (deeper (limit - depth)) ts ≡ Good a us
+    → expression_reader depth ts ≡ Good a.tree us
 expression_good depth ts us a h = ap (onward (λ a. give a.tree)) h
 
-pub expression_fails : (depth : ℕ) (ts : Tokens) (f : ReadFault) → Fails f (expr Program (deeper (limit - depth)) ts) → Fails f (expression_reader depth ts)
+pub expression_fails : (depth : ℕ) (ts : Tokens) (f : ReadFault) → Fails f (expr Program (deeper (limit - depth)) ts)
+    → Fails f (expression_reader depth ts)
 expression_fails depth ts f h = fails_as_tree (expr Program (deeper (limit - depth))) ts f h
 
-pub formula_good : (depth : ℕ) (ts us : Tokens) (a : Part) → formula (deeper (limit - depth)) ts ≡ Good a us → formula_reader depth ts ≡ Good a.tree us
+pub formula_good : (depth : ℕ) (ts us : Tokens) (a : Part) → formula (deeper (limit - depth)) ts ≡ Good a us
+    → formula_reader depth ts ≡ Good a.tree us
 formula_good depth ts us a h = ap (onward (λ a. give a.tree)) h
 
-pub formula_fails : (depth : ℕ) (ts : Tokens) (f : ReadFault) → Fails f (formula (deeper (limit - depth)) ts) → Fails f (formula_reader depth ts)
+pub formula_fails : (depth : ℕ) (ts : Tokens) (f : ReadFault) → Fails f (formula (deeper (limit - depth)) ts)
+    → Fails f (formula_reader depth ts)
 formula_fails depth ts f h = fails_as_tree (formula (deeper (limit - depth))) ts f h

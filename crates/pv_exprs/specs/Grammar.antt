@@ -27,40 +27,50 @@ use Rattle.pv_exprs.specs.Trees.{node, joined, negated, signed, widened, element
 
 -- amount = "write" | NUMBER "\" NUMBER
 pub data IsAmount : ℕ → Marked → Amount → Marked → Type 0 where
-  write : {d : ℕ} {s : Span} {us : Marked} → IsAmount d ((fixed_at WRITE s, d) ∷ us) (record { parts = 1; whole = 1; span = s }) us
+  write : {d : ℕ} {s : Span} {us : Marked}
+      → IsAmount d ((fixed_at WRITE s, d) ∷ us) (record { parts = 1; whole = 1; span = s }) us
   parts : {d n m : ℕ} {s q r : Span} {us : Marked}
-      → IsAmount d ((number_at n s, d) ∷ (fixed_at BACKSLASH q, d) ∷ (number_at m r, d) ∷ us) (record { parts = n; whole = m; span = across s r }) us
+      → IsAmount d ((number_at n s, d) ∷ (fixed_at BACKSLASH q, d) ∷ (number_at m r, d) ∷ us)
+      (record { parts = n; whole = m; span = across s r }) us
 
 mutual
   -- expr, and, eq, rel, sum, prod: parts of the next tighter level, joined by the operators of this one.
   -- `expr` is what is joined at the level Disjunction, `sum` what is joined at the level Sum.
   pub data IsJoined : Mode → Level → ℕ → Marked → Part → Marked → Type 0 where
-    parts : {m : Mode} {l : Level} {d : ℕ} {ts us vs : Marked} {a b : Part} → IsOperand m l d ts a us → JoinedFrom m l d a us b vs → IsJoined m l d ts b vs
+    parts : {m : Mode} {l : Level} {d : ℕ} {ts us vs : Marked} {a b : Part} → IsOperand m l d ts a us → JoinedFrom m l d a us b vs
+        → IsJoined m l d ts b vs
 
   -- what follows the chain so far
   pub data JoinedFrom : Mode → Level → ℕ → Part → Marked → Part → Marked → Type 0 where
     no_more : {m : Mode} {l : Level} {d : ℕ} {us : Marked} {a : Part} → JoinedFrom m l d a us a us
     one_more : {m : Mode} {l : Level} {d : ℕ} {x : Lexeme} {o : Operator} {us vs ws : Marked} {a b c : Part}
-        → operator_of l x.kind ≡ Some o → IsOperand m l (suc d) us b vs → JoinedOnly m l (suc d) (joined o a b) vs c ws → JoinedFrom m l d a ((x, suc d) ∷ us) c ws
+        → operator_of l x.kind ≡ Some o → IsOperand m l (suc d) us b vs → JoinedOnly m l (suc d) (joined o a b) vs c ws
+        → JoinedFrom m l d a ((x, suc d) ∷ us) c ws
 
   -- what follows an operator and its part: more of the chain, where more than one operator may stand in it
   pub data JoinedOnly : Mode → Level → ℕ → Part → Marked → Part → Marked → Type 0 where
     last : {m : Mode} {l : Level} {d : ℕ} {us : Marked} {a : Part} → repeats l ≡ false → JoinedOnly m l d a us a us
-    more : {m : Mode} {l : Level} {d : ℕ} {us vs : Marked} {a b : Part} → repeats l ≡ true → JoinedFrom m l d a us b vs → JoinedOnly m l d a us b vs
+    more : {m : Mode} {l : Level} {d : ℕ} {us vs : Marked} {a b : Part} → repeats l ≡ true → JoinedFrom m l d a us b vs
+        → JoinedOnly m l d a us b vs
 
   pub data IsOperand : Mode → Level → ℕ → Marked → Part → Marked → Type 0 where
-    level : {m : Mode} {l k : Level} {d : ℕ} {us vs : Marked} {a : Part} → tighter l ≡ Some k → IsJoined m k d us a vs → IsOperand m l d us a vs
-    unary : {m : Mode} {l : Level} {d : ℕ} {us vs : Marked} {a : Part} → tighter l ≡ None → IsUnary m d us a vs → IsOperand m l d us a vs
+    level : {m : Mode} {l k : Level} {d : ℕ} {us vs : Marked} {a : Part} → tighter l ≡ Some k → IsJoined m k d us a vs
+        → IsOperand m l d us a vs
+    unary : {m : Mode} {l : Level} {d : ℕ} {us vs : Marked} {a : Part} → tighter l ≡ None → IsUnary m d us a vs
+        → IsOperand m l d us a vs
 
   -- unary = { "!" | "-" } post
   pub data IsUnary : Mode → ℕ → Marked → Part → Marked → Type 0 where
-    not : {m : Mode} {d : ℕ} {s : Span} {us vs : Marked} {a : Part} → IsUnary m (suc d) us a vs → IsUnary m d ((fixed_at BANG s, suc d) ∷ us) (negated s a) vs
-    minus : {m : Mode} {d : ℕ} {s : Span} {us vs : Marked} {a : Part} → IsUnary m (suc d) us a vs → IsUnary m d ((fixed_at MINUS s, suc d) ∷ us) (signed s a) vs
+    not : {m : Mode} {d : ℕ} {s : Span} {us vs : Marked} {a : Part} → IsUnary m (suc d) us a vs
+        → IsUnary m d ((fixed_at BANG s, suc d) ∷ us) (negated s a) vs
+    minus : {m : Mode} {d : ℕ} {s : Span} {us vs : Marked} {a : Part} → IsUnary m (suc d) us a vs
+        → IsUnary m d ((fixed_at MINUS s, suc d) ∷ us) (signed s a) vs
     plain : {m : Mode} {d : ℕ} {us vs : Marked} {a : Part} → IsPost m d us a vs → IsUnary m d us a vs
 
   -- post = atom { "." NAME | "[" expr "]" }
   pub data IsPost : Mode → ℕ → Marked → Part → Marked → Type 0 where
-    post : {m : Mode} {d : ℕ} {ts us vs : Marked} {a b : Chain} → IsAtom m d ts a us → StepsFrom m d a us b vs → IsPost m d ts (part_of b) vs
+    post : {m : Mode} {d : ℕ} {ts us vs : Marked} {a b : Chain} → IsAtom m d ts a us → StepsFrom m d a us b vs
+        → IsPost m d ts (part_of b) vs
 
   -- { "." NAME | "[" expr "]" }: what follows the chain so far
   pub data StepsFrom : Mode → ℕ → Chain → Marked → Chain → Marked → Type 0 where
@@ -70,10 +80,12 @@ mutual
   -- the same, with one step at least
   pub data SomeSteps : Mode → ℕ → Chain → Marked → Chain → Marked → Type 0 where
     field : {m : Mode} {d : ℕ} {s : Span} {w : Word} {us vs : Marked} {a b : Chain}
-        → StepsFrom m (suc d) (Named (Some (part_of a)) w) us b vs → SomeSteps m d a ((fixed_at DOT s, suc d) ∷ (word_at w, suc d) ∷ us) b vs
+        → StepsFrom m (suc d) (Named (Some (part_of a)) w) us b vs
+        → SomeSteps m d a ((fixed_at DOT s, suc d) ∷ (word_at w, suc d) ∷ us) b vs
     element : {m : Mode} {d : ℕ} {s r : Span} {us vs ws : Marked} {i : Part} {a b : Chain}
         → IsJoined m Disjunction (suc (suc d)) us i ((fixed_at CLOSE_BRACKET r, suc (suc d)) ∷ vs)
-        → StepsFrom m (suc d) (Other (element_of (part_of a) i r)) vs b ws → SomeSteps m d a ((fixed_at OPEN_BRACKET s, suc (suc d)) ∷ us) b ws
+        → StepsFrom m (suc d) (Other (element_of (part_of a) i r)) vs b ws
+        → SomeSteps m d a ((fixed_at OPEN_BRACKET s, suc (suc d)) ∷ us) b ws
 
   -- target = NAME | chain "." NAME, with chain = ( NAME | "this" ) { "." NAME | "[" expr "]" }
   pub data IsTarget : Mode → ℕ → Marked → Option Part → Word → Marked → Type 0 where
@@ -84,7 +96,8 @@ mutual
 
   -- "(" [ expr { "," expr } ] ")", with the place of its last token
   pub data IsArgs : Mode → ℕ → Marked → List Expr → Span → Marked → Type 0 where
-    no_args : {m : Mode} {d : ℕ} {s r : Span} {us : Marked} → IsArgs m d ((fixed_at OPEN_PAREN s, suc d) ∷ (fixed_at CLOSE_PAREN r, suc d) ∷ us) [] r us
+    no_args : {m : Mode} {d : ℕ} {s r : Span} {us : Marked}
+        → IsArgs m d ((fixed_at OPEN_PAREN s, suc d) ∷ (fixed_at CLOSE_PAREN r, suc d) ∷ us) [] r us
     args : {m : Mode} {d : ℕ} {s r : Span} {us vs : Marked} {xs : List Expr}
         → IsExprs m (suc d) us xs r vs → IsArgs m d ((fixed_at OPEN_PAREN s, suc d) ∷ us) xs r vs
 
@@ -102,15 +115,19 @@ mutual
   --      | "(" formula ")" in place of "(" expr ")"
   pub data IsAtom : Mode → ℕ → Marked → Chain → Marked → Type 0 where
     number : {m : Mode} {d n : ℕ} {s : Span} {us : Marked} → IsAtom m d ((number_at n s, d) ∷ us) (Other (node s (e.Number n))) us
-    true_word : {m : Mode} {d : ℕ} {s : Span} {us : Marked} → IsAtom m d ((fixed_at TRUE s, d) ∷ us) (Other (node s (e.Truth true))) us
-    false_word : {m : Mode} {d : ℕ} {s : Span} {us : Marked} → IsAtom m d ((fixed_at FALSE s, d) ∷ us) (Other (node s (e.Truth false))) us
+    true_word : {m : Mode} {d : ℕ} {s : Span} {us : Marked}
+        → IsAtom m d ((fixed_at TRUE s, d) ∷ us) (Other (node s (e.Truth true))) us
+    false_word : {m : Mode} {d : ℕ} {s : Span} {us : Marked}
+        → IsAtom m d ((fixed_at FALSE s, d) ∷ us) (Other (node s (e.Truth false))) us
     null_word : {m : Mode} {d : ℕ} {s : Span} {us : Marked} → IsAtom m d ((fixed_at NULL s, d) ∷ us) (Other (node s e.Null)) us
     this_word : {m : Mode} {d : ℕ} {s : Span} {us : Marked} → IsAtom m d ((fixed_at THIS s, d) ∷ us) (Other (node s e.This)) us
     name : {m : Mode} {d : ℕ} {w : Word} {us : Marked} → IsAtom m d ((word_at w, d) ∷ us) (Named None w) us
     group : {d : ℕ} {s r : Span} {us vs : Marked} {a : Part}
-        → IsJoined Program Disjunction (suc d) us a ((fixed_at CLOSE_PAREN r, suc d) ∷ vs) → IsAtom Program d ((fixed_at OPEN_PAREN s, suc d) ∷ us) (Other (widened s r a)) vs
+        → IsJoined Program Disjunction (suc d) us a ((fixed_at CLOSE_PAREN r, suc d) ∷ vs)
+        → IsAtom Program d ((fixed_at OPEN_PAREN s, suc d) ∷ us) (Other (widened s r a)) vs
     formula_group : {d : ℕ} {s r : Span} {us vs : Marked} {a : Part}
-        → IsFormula (suc d) us a ((fixed_at CLOSE_PAREN r, suc d) ∷ vs) → IsAtom Logic d ((fixed_at OPEN_PAREN s, suc d) ∷ us) (Other (widened s r a)) vs
+        → IsFormula (suc d) us a ((fixed_at CLOSE_PAREN r, suc d) ∷ vs)
+        → IsAtom Logic d ((fixed_at OPEN_PAREN s, suc d) ∷ us) (Other (widened s r a)) vs
     result_word : {d : ℕ} {s : Span} {us : Marked} → IsAtom Logic d ((fixed_at RESULT s, d) ∷ us) (Other (node s e.Result)) us
     old : {d : ℕ} {s q r : Span} {us vs : Marked} {a : Part}
         → IsJoined Logic Disjunction (suc d) us a ((fixed_at CLOSE_PAREN r, suc d) ∷ vs)
@@ -118,14 +135,17 @@ mutual
     instance : {d : ℕ} {r : Span} {w : Word} {us vs ws : Marked} {a : Option Part} {xs : List Expr}
         → IsTarget Logic d us a w vs → IsArgs Logic d vs xs r ws → IsAtom Logic d us (Other (instance_of a w xs r)) ws
     perm : {d : ℕ} {s q c r : Span} {x : Amount} {us vs ws : Marked} {a : Part}
-        → IsPost Logic (suc d) us a ((fixed_at COMMA c, suc d) ∷ vs) → IsAmount (suc d) vs x ((fixed_at CLOSE_PAREN r, suc d) ∷ ws)
+        → IsPost Logic (suc d) us a ((fixed_at COMMA c, suc d) ∷ vs)
+        → IsAmount (suc d) vs x ((fixed_at CLOSE_PAREN r, suc d) ∷ ws)
         → IsAtom Logic d ((fixed_at PERM s, d) ∷ (fixed_at OPEN_PAREN q, suc d) ∷ us) (Other (perm_of s a x r)) ws
     token : {d : ℕ} {y : Lexeme} {t : Token} {q r : Span} {us vs : Marked} {a : Part}
         → token_of y.kind ≡ Some t → IsJoined Logic Disjunction (suc d) us a ((fixed_at CLOSE_PAREN r, suc d) ∷ vs)
         → IsAtom Logic d ((y, d) ∷ (fixed_at OPEN_PAREN q, suc d) ∷ us) (Other (token_part t y.span a r)) vs
     each : {d : ℕ} {s i c r : Span} {y : Lexeme} {star : Bool} {w : Word} {b : Bounds} {us vs ws : Marked} {a : Part}
-        → forall_of y.kind ≡ Some star → HasBounds (suc d) us b ((fixed_at SEMICOLON c, suc d) ∷ vs) → IsFormula (suc d) vs a ((fixed_at CLOSE_PAREN r, suc d) ∷ ws)
-        → IsAtom Logic d ((fixed_at OPEN_PAREN s, suc d) ∷ (y, suc d) ∷ (fixed_at INT i, suc d) ∷ (word_at w, suc d) ∷ us) (Other (each_of star s w b a r)) ws
+        → forall_of y.kind ≡ Some star → HasBounds (suc d) us b ((fixed_at SEMICOLON c, suc d) ∷ vs)
+        → IsFormula (suc d) vs a ((fixed_at CLOSE_PAREN r, suc d) ∷ ws)
+        → IsAtom Logic d ((fixed_at OPEN_PAREN s, suc d) ∷ (y, suc d) ∷ (fixed_at INT i, suc d) ∷ (word_at w, suc d) ∷ us)
+        (Other (each_of star s w b a r)) ws
 
   -- bounds = "=" expr ".." expr | ";" sum "<=" NAME "&&" NAME "<" sum
   pub data HasBounds : ℕ → Marked → Bounds → Marked → Type 0 where
@@ -133,8 +153,10 @@ mutual
         → IsJoined Logic Disjunction d us a ((fixed_at DOTS q, d) ∷ vs) → IsJoined Logic Disjunction d vs b ws
         → HasBounds d ((fixed_at ASSIGN s, d) ∷ us) (record { low = a; high = b; written = None }) ws
     written : {d : ℕ} {s q r t : Span} {v w : Word} {us vs ws : Marked} {a b : Part}
-        → IsOperand Logic Comparison d us a ((fixed_at AT_MOST q, d) ∷ (word_at v, d) ∷ (fixed_at AND_AND r, d) ∷ (word_at w, d) ∷ (fixed_at LESS t, d) ∷ vs)
-        → IsOperand Logic Comparison d vs b ws → HasBounds d ((fixed_at SEMICOLON s, d) ∷ us) (record { low = a; high = b; written = Some (v, w) }) ws
+        → IsOperand Logic Comparison d us a
+        ((fixed_at AT_MOST q, d) ∷ (word_at v, d) ∷ (fixed_at AND_AND r, d) ∷ (word_at w, d) ∷ (fixed_at LESS t, d) ∷ vs)
+        → IsOperand Logic Comparison d vs b ws
+        → HasBounds d ((fixed_at SEMICOLON s, d) ∷ us) (record { low = a; high = b; written = Some (v, w) }) ws
 
   -- formula = level [ "==>" formula ], level = and { "||" and } | and { "**" and }
   pub data IsFormula : ℕ → Marked → Part → Marked → Type 0 where

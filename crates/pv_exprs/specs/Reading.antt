@@ -39,7 +39,8 @@ abbrev pub field_step : Mode → Chain → Readers → Parser Chain
 field_step m a p = expect_name (λ w. p.steps m (Named (Some (part_of a)) w))
 
 abbrev pub element_step : Mode → Chain → Readers → Parser Chain
-element_step m a p = opened (p.inside m) (λ q. q >>= λ i. expect CLOSE_BRACKET (λ t. p.steps m (Other (element_of (part_of a) i t))))
+element_step m a p =
+    opened (p.inside m) (λ q. q >>= λ i. expect CLOSE_BRACKET (λ t. p.steps m (Other (element_of (part_of a) i t))))
 
 unfoldable pub steps_or : Mode → Option Readers → Chain → Parser Chain → Parser Chain
 steps_or m o a r =
@@ -81,7 +82,8 @@ group o = expect OPEN_PAREN (λ s. opened o (grouped s))
 unfoldable pub amount : Parser Amount
 amount =
     fixed WRITE (λ s. give (record { parts = 1; whole = 1; span = s }))
-    (expect_number (λ n s. expect BACKSLASH (λ q. expect_number (λ m t. give (record { parts = n; whole = m; span = across s t })))))
+    (expect_number (λ n s. expect BACKSLASH (λ q.
+    expect_number (λ m t. give (record { parts = n; whole = m; span = across s t })))))
 
 abbrev pub oldened : Span → Readers → Parser Chain
 oldened s p = p.expr Logic >>= λ a. expect CLOSE_PAREN (λ t. give (Other (old_of s a t)))
@@ -93,7 +95,8 @@ abbrev pub tokened : Token → Span → Readers → Parser Chain
 tokened k s p = p.expr Logic >>= λ a. expect CLOSE_PAREN (λ t. give (Other (token_part k s a t)))
 
 abbrev pub range_bounds : Readers → Parser Bounds
-range_bounds p = p.expr Logic >>= λ a. expect DOTS (λ t. p.expr Logic >>= λ b. give (record { low = a; high = b; written = None }))
+range_bounds p =
+    p.expr Logic >>= λ a. expect DOTS (λ t. p.expr Logic >>= λ b. give (record { low = a; high = b; written = None }))
 
 -- `sum` is what is joined at the level Sum: the operands of a comparison
 abbrev pub written_bounds : Readers → Parser Bounds
@@ -107,7 +110,8 @@ bounds p = fixed ASSIGN (λ s. range_bounds p) (expect SEMICOLON (λ s. written_
 -- behind the bracket at s and the word of the quantifier
 unfoldable pub quantified : Bool → Span → Readers → Parser Chain
 quantified star s p =
-    expect INT (λ i. expect_name (λ w. bounds p >>= λ b. expect SEMICOLON (λ c. p.formula >>= λ a. expect CLOSE_PAREN (λ t. give (Other (each_of star s w b a t))))))
+    expect INT (λ i. expect_name (λ w. bounds p >>= λ b.
+    expect SEMICOLON (λ c. p.formula >>= λ a. expect CLOSE_PAREN (λ t. give (Other (each_of star s w b a t))))))
 
 -- behind the bracket at s
 unfoldable pub formula_grouped : Span → Readers → Parser Chain

@@ -67,4 +67,12 @@ abbrev pub token_part : Token → Span → Part → Span → Part
 token_part t s a r = node (across s r) (e.Token t a.tree)
 
 abbrev pub each_of : Bool → Span → Word → Bounds → Part → Span → Part
-each_of star s w b a r = node (across s r) (e.Each (roll-Each (record { star = star; name = w; low = b.low.tree; high = b.high.tree; body = a.tree; written = b.written })))
+each_of star s w b a r =
+    node (across s r) (e.Each (roll-Each (record {
+      star = star;
+      name = w;
+      low = b.low.tree;
+      high = b.high.tree;
+      body = a.tree;
+      written = b.written;
+    })))

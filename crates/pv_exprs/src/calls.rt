@@ -6,7 +6,6 @@ ghost use Rattle.pv_reading.specs.Spelled.{IsLongest};
 ghost use Rattle.pv_exprs.specs.Spelled.{IsExpressionTree, IsFormulaTree, limit};
 
 use crate::level::Mode;
-use crate::part::Part;
 use crate::reading::{read_expression, read_formula};
 use pv_ast::Expr;
 use pv_reading::{ParseFault, placed, tokens_from};
@@ -35,10 +34,7 @@ pub fn expression(
 {
     let front = tokens_from(tokens, from);
     match read_expression(alloc, Mode::Program, front, LIMIT - depth) {
-        Ok((part, rest)) => {
-            let Part { tree, span: _ } = part;
-            Ok((tree, (tokens.len() - rest.len()) as u32))
-        }
+        Ok((part, rest)) => Ok((part.into_tree(), (tokens.len() - rest.len()) as u32)),
         Err(fault) => Err(placed(front, tokens.end, fault)),
     }
 }
@@ -58,10 +54,7 @@ pub fn formula(
 {
     let front = tokens_from(tokens, from);
     match read_formula(alloc, front, LIMIT - depth) {
-        Ok((part, rest)) => {
-            let Part { tree, span: _ } = part;
-            Ok((tree, (tokens.len() - rest.len()) as u32))
-        }
+        Ok((part, rest)) => Ok((part.into_tree(), (tokens.len() - rest.len()) as u32)),
         Err(fault) => Err(placed(front, tokens.end, fault)),
     }
 }

@@ -16,6 +16,16 @@ pub struct Part {
     pub span: Span,
 }
 
+impl Part {
+    /// The tree alone.
+    pub fn into_tree(self) -> Expr
+        ensures { result ≡ self.tree }
+    {
+        let Part { tree, span: _ } = self;
+        tree
+    }
+}
+
 /// An expression by its end: a name, maybe behind a receiver, or something else. A chain that ends in a name may be a target.
 #[derive(Drop)]
 pub enum Chain {
@@ -54,10 +64,8 @@ pub fn binary(alloc: Global, operator: Operator, left: Part, right: Part) -> Res
     ensures { GivesNext result (joined operator left right) }
 {
     let span = across(left.span, right.span);
-    let Part { tree, span: _ } = left;
-    let left = Boxed::new(alloc, tree)?;
-    let Part { tree, span: _ } = right;
-    let right = Boxed::new(alloc, tree)?;
+    let left = Boxed::new(alloc, left.into_tree())?;
+    let right = Boxed::new(alloc, right.into_tree())?;
     Ok(bare(span, ExprKind::Binary(operator, left, right)))
 }
 
@@ -83,9 +91,8 @@ pub fn negative(alloc: Global, first: Span, inner: Part) -> Result<Part, ReadFau
 pub fn widened(first: Span, last: Span, inner: Part) -> Part
     ensures { result ≡ widened_of first last inner }
 {
-    let Part { tree, span: _ } = inner;
     Part {
-        tree,
+        tree: inner.into_tree(),
         span: across(first, last),
     }
 }
@@ -105,8 +112,7 @@ pub fn element(alloc: Global, array: Part, index: Part, last: Span) -> Result<Pa
 {
     let Part { tree, span } = array;
     let array = Boxed::new(alloc, tree)?;
-    let Part { tree, span: _ } = index;
-    let index = Boxed::new(alloc, tree)?;
+    let index = Boxed::new(alloc, index.into_tree())?;
     Ok(bare(across(span, last), ExprKind::Index(array, index)))
 }
 
@@ -124,7 +130,7 @@ pub fn part_of(alloc: Global, chain: Chain) -> Result<Part, ReadFault>
 }
 
 /// Where the name behind a receiver, if it has one, begins.
-fn start_of(receiver: &Option<Part>, word: Word) -> Span
+pub fn start_of(receiver: &Option<Part>, word: Word) -> Span
     ensures { result ≡ start_of receiver.now word }
 {
     match receiver {
@@ -146,8 +152,7 @@ pub fn instance(
     let span = across(start_of(&receiver, word), last);
     match receiver {
         Some(part) => {
-            let Part { tree, span: _ } = part;
-            let tree = Boxed::new(alloc, tree)?;
+            let tree = Boxed::new(alloc, part.into_tree())?;
             Ok(bare(span, ExprKind::Instance(Some(tree), word, args)))
         }
         None => Ok(bare(span, ExprKind::Instance(None, word, args))),
@@ -158,8 +163,7 @@ pub fn instance(
 pub fn old(alloc: Global, first: Span, inner: Part, last: Span) -> Result<Part, ReadFault>
     ensures { GivesNext result (old_of first inner last) }
 {
-    let Part { tree, span: _ } = inner;
-    let tree = Boxed::new(alloc, tree)?;
+    let tree = Boxed::new(alloc, inner.into_tree())?;
     Ok(bare(across(first, last), ExprKind::Old(tree)))
 }
 
@@ -173,8 +177,7 @@ pub fn permission(
 ) -> Result<Part, ReadFault>
     ensures { GivesNext result (perm_of first inner amount last) }
 {
-    let Part { tree, span: _ } = inner;
-    let tree = Boxed::new(alloc, tree)?;
+    let tree = Boxed::new(alloc, inner.into_tree())?;
     let kind = ExprKind::Perm(tree, amount.parts, amount.whole, amount.span);
     Ok(bare(across(first, last), kind))
 }
@@ -189,8 +192,7 @@ pub fn held(
 ) -> Result<Part, ReadFault>
     ensures { GivesNext result (token_part token first inner last) }
 {
-    let Part { tree, span: _ } = inner;
-    let tree = Boxed::new(alloc, tree)?;
+    let tree = Boxed::new(alloc, inner.into_tree())?;
     Ok(bare(across(first, last), ExprKind::Token(token, tree)))
 }
 
@@ -207,12 +209,9 @@ pub fn each(
     ensures { GivesNext result (each_of star first name bounds body last) }
 {
     let Bounds { low, high, written } = bounds;
-    let Part { tree, span: _ } = low;
-    let low = Boxed::new(alloc, tree)?;
-    let Part { tree, span: _ } = high;
-    let high = Boxed::new(alloc, tree)?;
-    let Part { tree, span: _ } = body;
-    let body = Boxed::new(alloc, tree)?;
+    let low = Boxed::new(alloc, low.into_tree())?;
+    let high = Boxed::new(alloc, high.into_tree())?;
+    let body = Boxed::new(alloc, body.into_tree())?;
     let each = Each {
         star,
         name,

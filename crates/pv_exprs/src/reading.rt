@@ -359,8 +359,7 @@ fn some_args<'a>(
     let mut rest = tokens;
     'found: loop {
         let (part, behind) = read_expression(alloc, mode, rest, room)?;
-        let Part { tree, span: _ } = part;
-        found.push(tree)?;
+        found.push(part.into_tree())?;
         match after(behind, COMMA) {
             Some((_, more)) => rest = more,
             None => {

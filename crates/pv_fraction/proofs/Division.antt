@@ -15,8 +15,10 @@ second_holds : (a b : Bool) → (a && b) ≡ true → b ≡ true
 second_holds true b h = h
 second_holds false b h = cc
 
-divides_at : (n b : ℕ) (same : Bool) → nat_eq b (suc n) ≡ same → nat_eq ((whole / suc n) * suc n) whole ≡ true → ((b ≤ n) → (whole / b) * b ≡ whole) → b ≤ suc n → (whole / b) * b ≡ whole
-divides_at n b true e h k l = let same : b ≡ suc n = eqb-true b (suc n) e in subst (λ m. (whole / m) * m ≡ whole) (sym same) (eqb-true ((whole / suc n) * suc n) whole h)
+divides_at : (n b : ℕ) (same : Bool) → nat_eq b (suc n) ≡ same → nat_eq ((whole / suc n) * suc n) whole ≡ true
+    → ((b ≤ n) → (whole / b) * b ≡ whole) → b ≤ suc n → (whole / b) * b ≡ whole
+divides_at n b true e h k l = let same : b ≡ suc n = eqb-true b (suc n) e in
+    subst (λ m. (whole / m) * m ≡ whole) (sym same) (eqb-true ((whole / suc n) * suc n) whole h)
 divides_at n b false e h k l = k (grind (arith, e))
 
 divides_below : (n b : ℕ) → divide_up_to n ≡ true → 1 ≤ b → b ≤ n → (whole / b) * b ≡ whole

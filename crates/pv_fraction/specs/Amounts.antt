@@ -1,4 +1,5 @@
--- Amounts of permission, as numbers of units. The whole permission has as many units as each whole number from 1 to 40 divides, so
+-- Amounts of permission, as numbers of units. The whole permission has as many units as each whole number from 1 to 40 divides,
+-- so
 -- that each part of it is a whole number of units.
 use Rattle.std.specs.Prelude.{ℕ, ◌+◌, ◌-◌, Bool, ◌&&◌, nat_le, nat_lt, nat_eq, Option, Some, None, if◌then◌else◌}
 

@@ -20,7 +20,8 @@ none_fails true n e = absurd (cc e)
 none_fails false n e = refl
 
 -- where a first element that passes stands, there it is
-find_position : {X : Type 0} (p : X → Bool) (xs : List X) (k : ℕ) → Some k ≡ position p xs → (find p xs ≡ slice_get xs k) × (k < length xs)
+find_position : {X : Type 0} (p : X → Bool) (xs : List X) (k : ℕ) → Some k ≡ position p xs
+    → (find p xs ≡ slice_get xs k) × (k < length xs)
 find_position p xs k e =
     let n = position_or_len p xs in
     let h = some_passes (ltb n (length xs)) n k e in
@@ -37,14 +38,17 @@ find_nowhere p xs e =
     not_below m l f = grind (arith, common_steps, f)
 
 -- what stands at a place within the list
-taken : (files : List FileEntry) (place : ℕ) → place < length files → option_map (λ entry. entry.bytes) (slice_get files place) ≡ Some (bytes_from files place 0)
+taken : (files : List FileEntry) (place : ℕ) → place < length files
+    → option_map (λ entry. entry.bytes) (slice_get files place) ≡ Some (bytes_from files place 0)
 taken files place within =
     elim (slice_get_cases files place).1 [ inl there ↦ rw there.2 refl | inr past ↦ absurd (omega (arith, past.0)) ]
 
-pub found_at : (files : List FileEntry) (name : List ℕ) (place : ℕ) → Some place ≡ position (has_name name) files → file_named files name ≡ Some (bytes_from files place 0)
+pub found_at : (files : List FileEntry) (name : List ℕ) (place : ℕ) → Some place ≡ position (has_name name) files
+    → file_named files name ≡ Some (bytes_from files place 0)
 found_at files name place e =
     let h = find_position (has_name name) files place e in
     ap (option_map (λ entry. entry.bytes)) h.0 ∙ taken files place h.1
 
-pub found_nowhere : (files : List FileEntry) (name : List ℕ) → None ≡ position (has_name name) files → file_named files name ≡ None
+pub found_nowhere : (files : List FileEntry) (name : List ℕ) → None ≡ position (has_name name) files
+    → file_named files name ≡ None
 found_nowhere files name e = ap (option_map (λ entry. entry.bytes)) (find_nowhere (has_name name) files e)

@@ -25,23 +25,32 @@ prefix_appended w w' p r e longer left =
     record {
       count = n;
       short = omega (arith, lengths);
-      appended = ap Some (sym (take-append_seam w' r) ∙ (ap (take (length w')) e) ∙ ap (λ k. take k (w ++ p)) (sym sum) ∙ take-append-add w p n);
+      appended =
+          ap Some (sym (take-append_seam w' r) ∙ (ap (take (length w')) e) ∙ ap (λ k. take k (w ++ p)) (sym sum)
+          ∙ take-append-add w p n);
     }
 
 -- so a whole write that fails there appends a prefix
-pub stopped : {A E : Type 0} (written written' : Option (List ℕ)) (piece rest : List ℕ) (answer : Result A E) → HasWritten written written' piece rest → 0 < length rest → IsErr answer → AppendsWhole written written' piece answer
+pub stopped : {A E : Type 0} (written written' : Option (List ℕ)) (piece rest : List ℕ) (answer : Result A E)
+    → HasWritten written written' piece rest → 0 < length rest → IsErr answer → AppendsWhole written written' piece answer
 stopped None written' piece rest answer h left err = tt
 stopped (Some w) None piece rest answer h left err = absurd h
 stopped (Some w) (Some w') piece rest (Ok done) h left err = absurd (cc err)
 stopped (Some w) (Some w') piece rest (Err fault) h left err = prefix_appended w w' piece rest h.0 h.1 left
 
 -- the same after a call that fails, and after one that takes nothing
-pub stopped_failed : {A E D : Type 0} (written w1 w2 : Option (List ℕ)) (piece rest : List ℕ) (fault : D) (answer : Result A E) → HasWritten written w1 piece rest → AppendsFront {E = D} w1 w2 rest (Err fault) → 0 < length rest → IsErr answer → AppendsWhole written w2 piece answer
+pub stopped_failed : {A E D : Type 0} (written w1 w2 : Option (List ℕ)) (piece rest : List ℕ) (fault : D) (answer : Result A E)
+    → HasWritten written w1 piece rest → AppendsFront {E = D} w1 w2 rest (Err fault) → 0 < length rest → IsErr answer
+    → AppendsWhole written w2 piece answer
 stopped_failed None w1 w2 piece rest fault answer h a left err = tt
 stopped_failed (Some w) None w2 piece rest fault answer h a left err = absurd h
-stopped_failed (Some w) (Some w1) w2 piece rest fault answer h a left err = rw a (stopped (Some w) (Some w1) piece rest answer h left err)
+stopped_failed (Some w) (Some w1) w2 piece rest fault answer h a left err =
+    rw a (stopped (Some w) (Some w1) piece rest answer h left err)
 
-pub stopped_empty : {A E : Type 0} (D : Type 0) (written w1 w2 : Option (List ℕ)) (piece rest : List ℕ) (answer : Result A E) → HasWritten written w1 piece rest → AppendsFront {E = D} w1 w2 rest (Ok 0) → 0 < length rest → IsErr answer → AppendsWhole written w2 piece answer
+pub stopped_empty : {A E : Type 0} (D : Type 0) (written w1 w2 : Option (List ℕ)) (piece rest : List ℕ) (answer : Result A E)
+    → HasWritten written w1 piece rest → AppendsFront {E = D} w1 w2 rest (Ok 0) → 0 < length rest → IsErr answer
+    → AppendsWhole written w2 piece answer
 stopped_empty D None w1 w2 piece rest answer h a left err = tt
 stopped_empty D (Some w) None w2 piece rest answer h a left err = absurd h
-stopped_empty D (Some w) (Some w1) w2 piece rest answer h a left err = rw (a, append-nil) (stopped (Some w) (Some w1) piece rest answer h left err)
+stopped_empty D (Some w) (Some w1) w2 piece rest answer h a left err =
+    rw (a, append-nil) (stopped (Some w) (Some w1) piece rest answer h left err)

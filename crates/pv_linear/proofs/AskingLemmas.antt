@@ -12,14 +12,17 @@ use Rattle.pv_linear.specs.Sorting.{IsNumberAmong, IsReferenceAmong, AreSortsApa
 use Rattle.pv_linear.specs.Evidence.{Evidence, Follows, answered, IsLong, HasAllSymbols, MayBeFull, OnFull, MayAsk, IsNumber, IsReference, IsOfSorts, AreOfSorts}
 
 -- who may be full before a refusal may be full after it
-pub on_long : (fault : AskFault) (old new : List Literal) (symbols : ℕ) → new ≡ old → OnFull fault (IsLong old) → OnFull fault (MayBeFull new symbols)
+pub on_long : (fault : AskFault) (old new : List Literal) (symbols : ℕ) → new ≡ old → OnFull fault (IsLong old)
+    → OnFull fault (MayBeFull new symbols)
 unfolding MayBeFull
 on_long Full old new symbols e h = inl (subst IsLong (sym e) h)
 on_long NoMemory old new symbols e h = tt
 
-pub on_symbols : (fault : AskFault) (old new : List Literal) (before after : ℕ) → new ≡ old → after ≡ before → OnFull fault (HasAllSymbols old before) → OnFull fault (MayBeFull new after)
+pub on_symbols : (fault : AskFault) (old new : List Literal) (before after : ℕ) → new ≡ old → after ≡ before
+    → OnFull fault (HasAllSymbols old before) → OnFull fault (MayBeFull new after)
 unfolding MayBeFull
-on_symbols Full old new before after e d h = inr (subst (λ (ls : List Literal). HasAllSymbols ls after) (sym e) (subst (HasAllSymbols old) (sym d) h))
+on_symbols Full old new before after e d h = inr
+    (subst (λ (ls : List Literal). HasAllSymbols ls after) (sym e) (subst (HasAllSymbols old) (sym d) h))
 on_symbols NoMemory old new before after e d h = tt
 
 -- the answer has the sorts of the literal
@@ -29,7 +32,8 @@ answered_sorts sorts (AtMost x y c) false h = (h.1, h.0)
 answered_sorts sorts (Same x y) false h = h
 answered_sorts sorts (Differ x y) false h = h
 
-pub sorts_answered : (sorts : ℕ → Sort) (ls : List Literal) (l : Literal) (told : Bool) → AreOfSorts sorts ls → IsOfSorts sorts l → AreOfSorts sorts (ls ++ answered l told ∷ [])
+pub sorts_answered : (sorts : ℕ → Sort) (ls : List Literal) (l : Literal) (told : Bool) → AreOfSorts sorts ls → IsOfSorts sorts l
+    → AreOfSorts sorts (ls ++ answered l told ∷ [])
 unfolding AreOfSorts
 sorts_answered sorts [] l told h k = (answered_sorts sorts l told k, tt)
 sorts_answered sorts (x ∷ xs) l told h k = (h.0, sorts_answered sorts xs l told h.1 k)
@@ -44,7 +48,8 @@ number_among sorts (Same x y ∷ ls) k h (inl n) = absurd n
 number_among sorts (Differ x y ∷ ls) k h (inl n) = absurd n
 number_among sorts (l ∷ ls) k h (inr n) = number_among sorts ls k h.1 n
 
-reference_among : (sorts : ℕ → Sort) (ls : List Literal) (k : ℕ) → AreOfSorts sorts ls → IsReferenceAmong ls k → IsReference sorts k
+reference_among : (sorts : ℕ → Sort) (ls : List Literal) (k : ℕ) → AreOfSorts sorts ls → IsReferenceAmong ls k
+    → IsReference sorts k
 unfolding AreOfSorts
 reference_among sorts [] k h n = absurd n
 reference_among sorts (AtMost x y c ∷ ls) k h (inl n) = absurd n
@@ -59,20 +64,27 @@ pub sorts_apart : (sorts : ℕ → Sort) (ls : List Literal) → AreOfSorts sort
 sorts_apart sorts ls h k n r = number_among sorts ls (suc k) h n (λ e. cc e) (reference_among sorts ls (suc k) h r (λ e. cc e))
 
 -- a literal may be asked on a path of its sorts
-pub sorts_may_ask : (sorts : ℕ → Sort) (path : List Literal) (l : Literal) → AreOfSorts sorts path → IsOfSorts sorts l → MayAsk path l
+pub sorts_may_ask : (sorts : ℕ → Sort) (path : List Literal) (l : Literal) → AreOfSorts sorts path → IsOfSorts sorts l
+    → MayAsk path l
 unfolding MayAsk
 sorts_may_ask sorts path l h k met = sorts_apart sorts (path ++ l ∷ []) (sorts_answered sorts path l true h k)
 
 -- one more turn narrows the evidence to that turn
 pub Follows-turn-front : (e : Evidence) (ls : List Literal) (ts : List ℕ) (n : ℕ) → Follows ls (ts ++ n ∷ []) e → Follows ls ts e
 unfolding Follows
-Follows-turn-front e ls ts n h = (h.0, λ k lt. let i = get_or_append_left ts (n ∷ []) 0 k lt in sym i ∙ h.1 k (omega (arith, length-append ts (n ∷ []))))
+Follows-turn-front e ls ts n h = (
+  h.0,
+  λ k lt. let i = get_or_append_left ts (n ∷ []) 0 k lt in
+      sym i ∙ h.1 k (omega (arith, length-append ts (n ∷ []))),
+)
 
-pub Follows-turn-says : (e : Evidence) (ls : List Literal) (ts : List ℕ) (n : ℕ) → Follows ls (ts ++ n ∷ []) e → n ≡ e.turns (length ts)
+pub Follows-turn-says : (e : Evidence) (ls : List Literal) (ts : List ℕ) (n : ℕ) → Follows ls (ts ++ n ∷ []) e → n
+    ≡ e.turns (length ts)
 unfolding Follows
 Follows-turn-says e ls ts n h = sym (get_or-append_seam ts n [] 0) ∙ h.1 (length ts) (omega (arith, length-append ts (n ∷ [])))
 
-pub Follows-turn-more : (e : Evidence) (ls : List Literal) (ts : List ℕ) (n : ℕ) → Follows ls ts e → e.turns (length ts) ≡ n → Follows ls (ts ++ n ∷ []) e
+pub Follows-turn-more : (e : Evidence) (ls : List Literal) (ts : List ℕ) (n : ℕ) → Follows ls ts e → e.turns (length ts) ≡ n
+    → Follows ls (ts ++ n ∷ []) e
 unfolding Follows
 Follows-turn-more e ls ts n h t = (h.0, λ k lt. at k (nat_same k (length ts)) (omega (arith, length-append ts (n ∷ []), lt)))
   where

@@ -33,7 +33,8 @@ bound_of_all-append [] ys = omega arith
 bound_of_all-append (x ∷ xs) ys = omega (arith, bound_of_all-append xs ys)
 
 -- a literal of the list is bounded as the list is
-pub bound_at : (ls : List Literal) (i : ℕ) (d : Literal) (n m : ℕ) → bound_of_all ls ≤ n → n ≤ m → i < length ls → IsBounded m (slice_index_or ls i d)
+pub bound_at : (ls : List Literal) (i : ℕ) (d : Literal) (n m : ℕ) → bound_of_all ls ≤ n → n ≤ m → i < length ls
+    → IsBounded m (slice_index_or ls i d)
 bound_at [] i d n m h le lt = absurd (omega arith)
 bound_at (a ∷ ls) zero d n m h le lt = bounded_by m a (omega arith)
 bound_at (a ∷ ls) (suc i) d n m h le lt = bound_at ls i d n m (omega arith) le (omega arith)

@@ -22,11 +22,13 @@ Meets-append v (x ∷ xs) ys h k = (h.0, Meets-append v xs ys h.1 k)
 
 -- two numbers are equal, or one is below the other
 same_number : (a b : ℤ) → (a ≡ b) ⊎ (a ≢ b)
-same_number a b = by_lt_z a b (λ h. inr (λ e. omega (arith, ints))) (λ h. by_lt_z b a (λ k. inr (λ e. omega (arith, ints))) (λ k. inl (omega (arith, ints))))
+same_number a b = by_lt_z a b (λ h. inr (λ e. omega (arith, ints)))
+    (λ h. by_lt_z b a (λ k. inr (λ e. omega (arith, ints))) (λ k. inl (omega (arith, ints))))
 
 -- the opposite holds exactly where the literal does not
 pub opposite_holds : (v : Values) (l : Literal) → (Holds v l → ⊥) → Holds v (opposite l)
-opposite_holds v (AtMost x y c) h = by_lt_z (number_of v y.0 +ℤ c) (number_of v x.0) (λ k. omega (arith, ints)) (λ k. absurd (h k))
+opposite_holds v (AtMost x y c) h = by_lt_z (number_of v y.0 +ℤ c) (number_of v x.0) (λ k. omega (arith, ints))
+    (λ k. absurd (h k))
 opposite_holds v (Same x y) h = h
 opposite_holds v (Differ x y) h = elim (same_number (number_of v x.0) (number_of v y.0)) [ inl e ↦ e | inr n ↦ absurd (h n) ]
 
@@ -52,6 +54,7 @@ unfolding Follows
 Follows-front e ls ms ts h = (Meets-left e.values ls ms h.0, h.1)
 
 -- an answer says under the path whether the literal holds
-pub Follows-says : (e : Evidence) (ls : List Literal) (l : Literal) (told : Bool) (ts : List ℕ) → Follows (ls ++ answered l told ∷ []) ts e → IsTrue told ↔ Holds e.values l
+pub Follows-says : (e : Evidence) (ls : List Literal) (l : Literal) (told : Bool) (ts : List ℕ)
+    → Follows (ls ++ answered l told ∷ []) ts e → IsTrue told ↔ Holds e.values l
 unfolding Follows
 Follows-says e ls l told ts h = answered_says e.values l told (Meets-right e.values ls (answered l told ∷ []) h.0).0

@@ -39,7 +39,8 @@ answered literal told = if told then literal else opposite literal
 -- n of the literals are such that the opposite of each can be met together with all that stand before it
 abbrev pub Undecided : List Literal → List Literal → ℕ → Type 0
 Undecided before [] n = n ≡ 0
-Undecided before (l ∷ ls) n = Undecided (before ++ l ∷ []) ls n ⊎ ((m : ℕ) × (n ≡ suc m) × CanBeMet (before ++ opposite l ∷ []) × Undecided (before ++ l ∷ []) ls m)
+Undecided before (l ∷ ls) n = Undecided (before ++ l ∷ []) ls n ⊎
+    ((m : ℕ) × (n ≡ suc m) × CanBeMet (before ++ opposite l ∷ []) × Undecided (before ++ l ∷ []) ls m)
 
 -- the path can be met, and so many of its literals are such that a question may find no place on it
 unfoldable pub IsLong : List Literal → Type 0

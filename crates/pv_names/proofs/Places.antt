@@ -32,16 +32,23 @@ nowhere true n e = absurd cc
 nowhere false n e = refl
 
 -- the texts after the key of a new text went in
-pub map-insert_key : {A : Type 0} (f : A → List ℕ) (ks : List A) (k : A) (text : List ℕ) → None ≡ place_of (map f ks) text → f k ≡ text
+pub map-insert_key : {A : Type 0} (f : A → List ℕ) (ks : List A) (k : A) (text : List ℕ) → None ≡ place_of (map f ks) text
+    → f k ≡ text
     → map f (insert_key (λ x y. pointwise nat_eq (f x) (f y)) ks k) ≡ with_text (map f ks) text
 map-insert_key f ks k text none same =
-    let at_keys : position (λ x. pointwise nat_eq (f k) (f x)) ks ≡ None = sym (position-map (pointwise nat_eq (f k)) f ks) ∙ ap (λ t. place_of (map f ks) t) same ∙ sym none in
-    let absent : list_any (λ x. pointwise nat_eq (f k) (f x)) ks ≡ false = list_any-first (λ x. pointwise nat_eq (f k) (f x)) ks ∙ nowhere (ltb (position_or_len (λ x. pointwise nat_eq (f k) (f x)) ks) (length ks)) (position_or_len (λ x. pointwise nat_eq (f k) (f x)) ks) at_keys in
-    let left : map f (insert_key (λ x y. pointwise nat_eq (f x) (f y)) ks k) ≡ map f ks ++ text ∷ [] = ap (λ b. map f (cond b ks (ks ++ k ∷ []))) absent ∙ map-append f ks (k ∷ []) ∙ ap (λ t. map f ks ++ t ∷ []) same in
+    let at_keys : position (λ x. pointwise nat_eq (f k) (f x)) ks ≡ None =
+    sym (position-map (pointwise nat_eq (f k)) f ks) ∙ ap (λ t. place_of (map f ks) t) same ∙ sym none in
+    let absent : list_any (λ x. pointwise nat_eq (f k) (f x)) ks ≡ false =
+    list_any-first (λ x. pointwise nat_eq (f k) (f x)) ks
+    ∙ nowhere (ltb (position_or_len (λ x. pointwise nat_eq (f k) (f x)) ks) (length ks))
+    (position_or_len (λ x. pointwise nat_eq (f k) (f x)) ks) at_keys in
+    let left : map f (insert_key (λ x y. pointwise nat_eq (f x) (f y)) ks k) ≡ map f ks ++ text ∷ [] =
+    ap (λ b. map f (cond b ks (ks ++ k ∷ []))) absent ∙ map-append f ks (k ∷ []) ∙ ap (λ t. map f ks ++ t ∷ []) same in
     left ∙ sym (ap (λ o. cond (is_some {T = ℕ} o) (map f ks) (map f ks ++ text ∷ [])) (sym none))
 
 -- the text stands at its place
-pub slice_get-place : (names : List (List ℕ)) (text : List ℕ) (i : ℕ) → place_of names text ≡ Some i → slice_get names i ≡ Some text
+pub slice_get-place : (names : List (List ℕ)) (text : List ℕ) (i : ℕ) → place_of names text ≡ Some i
+    → slice_get names i ≡ Some text
 slice_get-place names text i e =
     let p = position-Some (pointwise nat_eq text) names i [] e in
     slice_get-get_or names i [] p.0 ∙ ap (λ (t : List ℕ). Some t) (sym ((bytes_decides text (get_or names i [])).0 p.1))
@@ -49,16 +56,21 @@ slice_get-place names text i e =
 -- a text without a place is not in the list
 pub no_place : (names : List (List ℕ)) (text : List ℕ) → place_of names text ≡ None → Contains names text → ⊥
 no_place names text e there =
-    let none : list_any (pointwise nat_eq text) names ≡ false = list_any-first (pointwise nat_eq text) names ∙ nowhere (ltb (position_or_len (pointwise nat_eq text) names) (length names)) (position_or_len (pointwise nat_eq text) names) e in
+    let none : list_any (pointwise nat_eq text) names ≡ false =
+    list_any-first (pointwise nat_eq text) names
+    ∙ nowhere (ltb (position_or_len (pointwise nat_eq text) names) (length names))
+    (position_or_len (pointwise nat_eq text) names) e in
     let some = list_any-from_Contains nat_list_eq_equiv text names there in
     absurd cc
 
-all-map : {A B : Type 0} (P : B → Type 0) (f : A → B) (xs : List A) → AllByRecursion (λ x. P (f x)) xs → AllByRecursion P (map f xs)
+all-map : {A B : Type 0} (P : B → Type 0) (f : A → B) (xs : List A) → AllByRecursion (λ x. P (f x)) xs
+    → AllByRecursion P (map f xs)
 all-map P f [] h = tt
 all-map P f (x ∷ xs) h = (h.0, all-map P f xs h.1)
 
 -- distinct keys have distinct texts
-pub IsDistinct-map : {A B : Type 0} (e : B → B → Bool) (f : A → B) (ks : List A) → IsDistinct (λ x y. e (f x) (f y)) ks → IsDistinct e (map f ks)
+pub IsDistinct-map : {A B : Type 0} (e : B → B → Bool) (f : A → B) (ks : List A) → IsDistinct (λ x y. e (f x) (f y)) ks
+    → IsDistinct e (map f ks)
 unfolding IsDistinct
 IsDistinct-map e f [] h = tt
 IsDistinct-map e f (k ∷ ks) h = (all-map (λ y. e (f k) y ≡ false) f ks h.0, IsDistinct-map e f ks h.1)

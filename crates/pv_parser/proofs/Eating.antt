@@ -15,10 +15,12 @@ module _ (n : ℕ) where
   param_keeps = exact_keeps (param_exact n 0 (deeper n) (omega arith) (readers_known n n 0 (omega arith)))
 
   pub invariant_keeps : Keeps (reading.invariant (deeper n))
-  invariant_keeps = exact_keeps (invariant_exact n 0 n (omega arith) starts_member (deeper_blocks n) (blocks_known n n 0 (omega arith)))
+  invariant_keeps =
+      exact_keeps (invariant_exact n 0 n (omega arith) starts_member (deeper_blocks n) (blocks_known n n 0 (omega arith)))
 
   pub stmt_eats : Eats (reading.stmt (deeper n) (deeper_blocks n))
-  stmt_eats = exact_eats refl refl (stmt_exact n 0 n (omega arith) starts_member (deeper_blocks n) (blocks_known n n 0 (omega arith)))
+  stmt_eats =
+      exact_eats refl refl (stmt_exact n 0 n (omega arith) starts_member (deeper_blocks n) (blocks_known n n 0 (omega arith)))
 
   pub member_eats : Eats (reading.member (deeper n) (deeper_blocks n))
   member_eats = exact_eats refl refl (member_exact n 0 n (omega arith) (deeper_blocks n) (blocks_known n n 0 (omega arith)))

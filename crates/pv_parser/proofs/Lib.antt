@@ -1,10 +1,14 @@
 pub mod Depths
-pub mod Eating
-pub mod ExactParts
-pub mod ExactPrograms
-pub mod ExactStatements
+pub mod Folds
+pub mod ExprCounts
+pub mod Counts
+pub mod ExprNumbers
+pub mod Numbers
 pub mod Targets
+pub mod ExactParts
+pub mod ExactStatements
+pub mod ExactPrograms
 pub mod OneTree
+pub mod Eating
 pub mod Turns
-mod ExprCounts
-mod Counts
+pub mod FirstTokens

@@ -24,18 +24,33 @@ unfolding greatest
 within_greatest [] = tt
 within_greatest (x ∷ u) = (omega arith, within_more (greatest u) (max x.1 (greatest u)) u (omega arith) (within_greatest u))
 
-pub one_program : (tokens : Tokens) (length : Option Name) (a b : Program) → Spells (IsProgram length) tokens a → Spells (IsProgram length) tokens b → a ≡ b
+pub one_program : (tokens : Tokens) (length : Option Name) (a b : Program) → Spells (IsProgram length) tokens a
+    → Spells (IsProgram length) tokens b → a ≡ b
 one_program tokens length a b s t =
     let n = max (greatest s.marks) (greatest t.marks) in
-    let p : SpellsWithin (IsProgram length) n tokens a = record { marks = s.marks; here = s.here; spelled = s.spelled; within = within_more (greatest s.marks) n s.marks (omega arith) (within_greatest s.marks) } in
-    let q : SpellsWithin (IsProgram length) n tokens b = record { marks = t.marks; here = t.here; spelled = t.spelled; within = within_more (greatest t.marks) n t.marks (omega arith) (within_greatest t.marks) } in
+    let p : SpellsWithin (IsProgram length) n tokens a =
+    record {
+      marks = s.marks;
+      here = s.here;
+      spelled = s.spelled;
+      within = within_more (greatest s.marks) n s.marks (omega arith) (within_greatest s.marks);
+    } in
+    let q : SpellsWithin (IsProgram length) n tokens b =
+    record {
+      marks = t.marks;
+      here = t.here;
+      spelled = t.spelled;
+      within = within_more (greatest t.marks) n t.marks (omega arith) (within_greatest t.marks);
+    } in
     calls.one_within (program_exact n length) refl 0 tokens a b p q
 
 -- Tokens have one fault at most.
 
 module _ (length : Option Name) (tokens : Tokens) where
-  pub one_too_deep : (place other : Span) → IsTooDeep (IsProgram length) 64 tokens place → IsTooDeep (IsProgram length) 64 tokens other → place ≡ other
+  pub one_too_deep : (place other : Span) → IsTooDeep (IsProgram length) 64 tokens place
+      → IsTooDeep (IsProgram length) 64 tokens other → place ≡ other
   one_too_deep place other h k = whole.one_too_deep (program_exact 64 length) refl tokens place other h k
 
-  pub unexpected_not_deep : (end : ℕ) (place other : Span) → IsUnexpected (IsProgram length) 64 end tokens place → IsTooDeep (IsProgram length) 64 tokens other → ⊥
+  pub unexpected_not_deep : (end : ℕ) (place other : Span) → IsUnexpected (IsProgram length) 64 end tokens place
+      → IsTooDeep (IsProgram length) 64 tokens other → ⊥
   unexpected_not_deep end place other h k = whole.unexpected_not_deep (program_exact 64 length) refl end tokens place other h k

@@ -41,7 +41,8 @@ pub record Blocks : Type 0 where
 -- Types. The word of the type stands at s.
 
 unfoldable pub type_from : Option Readers → Base → Span → Parser TypeWord
-type_from e b s = fixed OPEN_BRACKET (λ q. opened e (λ p. expect CLOSE_BRACKET (λ r. give (array_type b s r)))) (give (plain_type b s))
+type_from e b s =
+    fixed OPEN_BRACKET (λ q. opened e (λ p. expect CLOSE_BRACKET (λ r. give (array_type b s r)))) (give (plain_type b s))
 
 unfoldable pub type_word : Option Readers → Parser TypeWord
 type_word e = named (λ w. give (class_type w)) (pick base_of (type_from e) refuse)
@@ -189,7 +190,9 @@ abbrev pub barrier_body : Span → Word → Blocks → Parser Stmt
 barrier_body s w p = clauses p.exprs [] >>= λ cs. expect CLOSE_BRACE (λ l. give (barrier_stmt s w cs l))
 
 unfoldable pub barrier : Option Readers → Option Blocks → Span → Parser Stmt
-barrier e o s = expect OPEN_PAREN (λ q. opened e (λ p. expect_name (λ w. expect CLOSE_PAREN (λ r. expect OPEN_BRACE (λ t. opened o (barrier_body s w))))))
+barrier e o s =
+    expect OPEN_PAREN (λ q. opened e (λ p. expect_name
+    (λ w. expect CLOSE_PAREN (λ r. expect OPEN_BRACE (λ t. opened o (barrier_body s w))))))
 
 -- Other statements.
 
@@ -213,7 +216,9 @@ unfoldable pub assertion : Option Readers → Span → Parser Stmt
 assertion e s = formula_end e >>= λ y. give (assert_stmt s y.0 y.1)
 
 unfoldable pub send : Option Readers → Span → Parser Stmt
-send e s = expect_name (λ w. expect COMMA (λ c. expect_number (λ n m. expect COLON (λ t. formula_end e >>= λ y. give (send_stmt s w n y.0 y.1)))))
+send e s =
+    expect_name (λ w. expect COMMA (λ c. expect_number
+    (λ n m. expect COLON (λ t. formula_end e >>= λ y. give (send_stmt s w n y.0 y.1)))))
 
 unfoldable pub recv : Span → Parser Stmt
 recv s = expect_name (λ w. expect SEMICOLON (λ l. give (recv_stmt s w l)))
@@ -273,7 +278,8 @@ unfoldable pub contract_member : Option Readers → Option Blocks → ClauseKind
 contract_member e o k s = clause e k >>= λ c. clauses e (c ∷ []) >>= λ cs. contracted e o s cs
 
 unfoldable pub predicate : Option Readers → Option Blocks → Span → Parser Member
-predicate e o s = expect_name (λ w. params o >>= λ ps. expect ASSIGN (λ q. formula_end e >>= λ y. give (predicate_of s w ps y.0 y.1)))
+predicate e o s =
+    expect_name (λ w. params o >>= λ ps. expect ASSIGN (λ q. formula_end e >>= λ y. give (predicate_of s w ps y.0 y.1)))
 
 -- behind the type and the name of a field or a method
 unfoldable pub typed : Option Blocks → TypeWord → Word → Parser Member

@@ -132,7 +132,8 @@ abbrev pub predicate_of : Span → Word → List Param → Part → Span → Mem
 predicate_of s w ps a l = member.Predicate (record { span = across s l; name = w; params = ps; body = a.tree })
 
 abbrev pub method_of : Span → List Clause → Option TypeWord → Word → List Param → List Stmt → Span → Member
-method_of s cs t w ps b l = member.Method (record { span = across s l; name = w; result = t; params = ps; contract = record { clauses = cs }; body = b })
+method_of s cs t w ps b l =
+    member.Method (record { span = across s l; name = w; result = t; params = ps; contract = record { clauses = cs }; body = b })
 
 -- the word `run` stands at r
 abbrev pub run_of : Span → List Clause → Span → List Stmt → Span → Member

@@ -17,7 +17,8 @@ base_of = listed_in base_words
 
 -- what is done to the object of an expression
 abbrev pub action_words : List (ℕ × Action)
-action_words = (FORK, action.Fork) ∷ (JOIN, action.Join) ∷ (LOCK, action.Lock) ∷ (UNLOCK, action.Unlock) ∷ (COMMIT, action.Commit) ∷ []
+action_words =
+    (FORK, action.Fork) ∷ (JOIN, action.Join) ∷ (LOCK, action.Lock) ∷ (UNLOCK, action.Unlock) ∷ (COMMIT, action.Commit) ∷ []
 
 abbrev pub action_of : LexemeKind → Option Action
 action_of = listed_in action_words

@@ -13,7 +13,6 @@ use crate::trees::class_at;
 use crate::words::class_word;
 use pv_ast::{Class, Classes, Expr, Program};
 use pv_base::{Name, Span};
-use pv_exprs::Part;
 use pv_reading::{ReadFault, expected, expected_name};
 use pv_tokens::Lexeme;
 use pv_tokens::fixed::{CLASS, OPEN_BRACE};
@@ -52,8 +51,7 @@ fn class_from<'a>(
     if locks {
         let (formula, _, rest) = formula_end(alloc, tokens, room)?;
         let (_, rest) = expected(rest, CLASS)?;
-        let Part { tree, span: _ } = formula;
-        class_end(alloc, first, Some(tree), rest, room)
+        class_end(alloc, first, Some(formula.into_tree()), rest, room)
     } else {
         class_end(alloc, first, None, tokens, room)
     }

@@ -15,9 +15,6 @@ mod whole;
 mod words;
 
 pub use classes::read_program;
-pub use laws::few_literals;
-pub use whole::{one_tree, program};
+pub use laws::{few_literals, one_tree};
+pub use whole::program;
 pub use words::{Action, Base};
-
-#[cfg(test)]
-mod tests;

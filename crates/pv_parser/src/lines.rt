@@ -2,8 +2,6 @@
 //! what it read and the tokens behind.
 ghost use Rattle.std.specs.Prelude.{◌≡◌};
 ghost use Rattle.pv_reading.specs.Given.{Gives};
-ghost use Rattle.pv_reading.specs.Reading.{fixed, expect};
-ghost use Rattle.pv_tokens.specs.declared.fixed.TheConstants as sign;
 ghost use Rattle.pv_exprs.specs.Reading.{deeper};
 ghost use Rattle.pv_parser.specs.Reading as reading;
 
@@ -16,16 +14,16 @@ use crate::trees::{
     send_statement,
 };
 use crate::types::type_from;
-use crate::words::{Action, Base, action_word, folding_word};
+use crate::words::{Action, Base};
 use pv_ast::{Expr, Formulas, Stmt, TypeWord, Word};
 use pv_base::Span;
 use pv_clauses::read_clauses;
-use pv_exprs::{Chain, Mode, Part, inside, part_of, read_some_steps, read_steps};
+use pv_exprs::{Chain, Mode, inside, part_of, read_some_steps, read_steps};
 use pv_reading::{ReadFault, after, expected, expected_name, expected_number, named};
 use pv_tokens::Lexeme;
 use pv_tokens::fixed::{
-    ASSERT, ASSIGN, CLOSE_BRACE, CLOSE_PAREN, COLON, COMMA, LOOP_INVARIANT, OPEN_BRACE, OPEN_PAREN,
-    RECV, RETURN, SEMICOLON, SEND, THIS,
+    ASSIGN, CLOSE_BRACE, CLOSE_PAREN, COLON, COMMA, LOOP_INVARIANT, OPEN_BRACE, OPEN_PAREN,
+    SEMICOLON, THIS,
 };
 use sqlite_items::Items;
 use std::alloc::Global;
@@ -152,8 +150,7 @@ pub fn invariant<'a>(
     ensures { Gives (λ x. x.0) (λ x. x.1.now) result (reading.invariant (deeper room) tokens.now) }
 {
     let (formula, _, rest) = formula_end(alloc, tokens, room)?;
-    let Part { tree, span: _ } = formula;
-    Ok((tree, rest))
+    Ok((formula.into_tree(), rest))
 }
 
 /// Invariants behind those found so far, as long as another begins.
@@ -202,7 +199,7 @@ pub fn barrier<'a>(
 
 /// What follows the word of an action, which stands at `first`.
 #[tactic(auto, unfolding(crate::specs::Reading::action))]
-fn action<'a>(
+pub fn action<'a>(
     alloc: Global,
     kind: Action,
     first: Span,
@@ -241,7 +238,7 @@ fn folding_from<'a>(
 
 /// What follows the `fold` or `unfold` at `first`.
 #[tactic(auto, unfolding(crate::specs::Reading::folding))]
-fn folding<'a>(
+pub fn folding<'a>(
     alloc: Global,
     unfolds: bool,
     first: Span,
@@ -267,7 +264,7 @@ fn folding<'a>(
 
 /// What follows the `assert` at `first`.
 #[tactic(auto, unfolding(crate::specs::Reading::assertion))]
-fn assertion<'a>(
+pub fn assertion<'a>(
     alloc: Global,
     first: Span,
     tokens: &'a [Lexeme],
@@ -281,7 +278,7 @@ fn assertion<'a>(
 
 /// What follows the `send` at `first`.
 #[tactic(auto, unfolding(crate::specs::Reading::send))]
-fn send<'a>(
+pub fn send<'a>(
     alloc: Global,
     first: Span,
     tokens: &'a [Lexeme],
@@ -300,7 +297,7 @@ fn send<'a>(
 
 /// What follows the `recv` at `first`.
 #[tactic(auto, unfolding(crate::specs::Reading::recv))]
-fn recv(first: Span, tokens: &[Lexeme]) -> Result<(Stmt, &[Lexeme]), ReadFault>
+pub fn recv(first: Span, tokens: &[Lexeme]) -> Result<(Stmt, &[Lexeme]), ReadFault>
     ensures { Gives (λ x. x.0) (λ x. x.1.now) result (reading.recv first tokens.now) }
 {
     let (label, rest) = expected_name(tokens)?;
@@ -310,7 +307,7 @@ fn recv(first: Span, tokens: &[Lexeme]) -> Result<(Stmt, &[Lexeme]), ReadFault>
 
 /// What follows the `return` at `first`.
 #[tactic(auto, unfolding(crate::specs::Reading::returned))]
-fn returned<'a>(
+pub fn returned<'a>(
     alloc: Global,
     first: Span,
     tokens: &'a [Lexeme],
@@ -322,49 +319,7 @@ fn returned<'a>(
         Some((last, rest)) => Ok((return_statement(first, None, last), rest)),
         None => {
             let (value, last, rest) = expr_end(alloc, tokens, room)?;
-            let Part { tree, span: _ } = value;
-            Ok((return_statement(first, Some(tree), last), rest))
+            Ok((return_statement(first, Some(value.into_tree()), last), rest))
         }
-    }
-}
-
-/// A message or a return.
-fn message_or_return<'a>(
-    alloc: Global,
-    tokens: &'a [Lexeme],
-    room: u32,
-) -> Result<(Stmt, &'a [Lexeme]), ReadFault>
-    ensures { Gives (λ x. x.0) (λ x. x.1.now) result (fixed sign.SEND (reading.send (deeper room)) (fixed sign.RECV reading.recv (expect sign.RETURN (reading.returned (deeper room)))) tokens.now) }
-{
-    match after(tokens, SEND) {
-        Some((first, rest)) => send(alloc, first, rest, room),
-        None => match after(tokens, RECV) {
-            Some((first, rest)) => recv(first, rest),
-            None => {
-                let (first, rest) = expected(tokens, RETURN)?;
-                returned(alloc, first, rest, room)
-            }
-        },
-    }
-}
-
-/// A statement of one line that begins with a word of its own.
-#[tactic(auto, unfolding(crate::specs::Reading::word_stmt))]
-pub fn word_statement<'a>(
-    alloc: Global,
-    tokens: &'a [Lexeme],
-    room: u32,
-) -> Result<(Stmt, &'a [Lexeme]), ReadFault>
-    ensures { Gives (λ x. x.0) (λ x. x.1.now) result (reading.word_stmt (deeper room) tokens.now) }
-{
-    match action_word(tokens) {
-        Some((kind, first, rest)) => action(alloc, kind, first, rest, room),
-        None => match folding_word(tokens) {
-            Some((unfolds, first, rest)) => folding(alloc, unfolds, first, rest, room),
-            None => match after(tokens, ASSERT) {
-                Some((first, rest)) => assertion(alloc, first, rest, room),
-                None => message_or_return(alloc, tokens, room),
-            },
-        },
     }
 }

@@ -2,33 +2,35 @@
 //! what it read and the tokens behind.
 ghost use Rattle.std.specs.Prelude.{◌≡◌, []};
 ghost use Rattle.pv_reading.specs.Given.{Gives};
-ghost use Rattle.pv_reading.specs.Reading.{fixed, many};
+ghost use Rattle.pv_reading.specs.Reading.{many};
 ghost use Rattle.pv_tokens.specs.declared.fixed.TheConstants as sign;
 ghost use Rattle.pv_exprs.specs.Reading.{deeper};
 ghost use Rattle.pv_parser.specs.Reading as reading;
 ghost use Rattle.pv_parser.specs.Reading.{deeper_blocks};
 
 use crate::lines::{
-    barrier, invariant, invariants, local, name_statement, this_statement, word_statement,
+    action, assertion, barrier, folding, invariant, invariants, local, name_statement, recv,
+    returned, send, this_statement,
 };
 use crate::parts::{condition, range};
 use crate::rooms::inside_blocks;
 use crate::trees::{for_statement, if_statement, par_statement, while_statement};
-use crate::words::base_word;
+use crate::words::{Action, Base, first_token};
 use pv_ast::{Block, Formulas, Stmt, Word};
 use pv_base::Span;
 use pv_clauses::read_clauses;
 use pv_exprs::Part;
 use pv_reading::{ReadFault, after, expected, named};
-use pv_tokens::Lexeme;
 use pv_tokens::fixed::{
-    BARRIER, CLOSE_BRACE, ELSE, FOR, IF, LOOP_INVARIANT, OPEN_BRACE, PAR, THIS, WHILE,
+    ASSERT, BARRIER, BOOL, BOOLEAN, CLOSE_BRACE, COMMIT, ELSE, FOLD, FOR, FORK, IF, INT, JOIN,
+    LOCK, LOOP_INVARIANT, OPEN_BRACE, PAR, RECV, RETURN, SEND, THIS, UNFOLD, UNLOCK, WHILE,
 };
+use pv_tokens::{Lexeme, LexemeKind};
 use sqlite_items::Items;
 use std::alloc::Global;
 
+/// A statement, by its first token.
 #[cycle(statement)]
-#[tactic(auto, unfolding(crate::specs::Reading::stmt))]
 fn statement<'a>(
     alloc: Global,
     tokens: &'a [Lexeme],
@@ -36,58 +38,42 @@ fn statement<'a>(
 ) -> Result<(Stmt, &'a [Lexeme]), ReadFault>
     ensures { Gives (λ x. x.0) (λ x. x.1.now) result (reading.stmt (deeper room) (deeper_blocks room) tokens.now) }
 {
-    match named(tokens) {
-        Some((first, rest)) => name_statement(alloc, first, rest, room),
-        None => match after(tokens, THIS) {
-            Some((first, rest)) => this_statement(alloc, first, rest, room),
-            None => match base_word(tokens) {
-                Some((base, first, rest)) => local(alloc, base, first, rest, room),
-                None => block_statement(alloc, tokens, room),
+    match first_token(tokens) {
+        Some((first, rest)) => match first.kind {
+            LexemeKind::Named(name) => {
+                let word = Word {
+                    name,
+                    span: first.span,
+                };
+                name_statement(alloc, word, rest, room)
+            }
+            LexemeKind::Number(_) => Err(ReadFault::Unexpected(tokens.len())),
+            LexemeKind::Fixed(number) => match number {
+                THIS => this_statement(alloc, first.span, rest, room),
+                INT => local(alloc, Base::Int, first.span, rest, room),
+                BOOLEAN => local(alloc, Base::Truth, first.span, rest, room),
+                BOOL => local(alloc, Base::Truth, first.span, rest, room),
+                IF => choice(alloc, first.span, rest, room),
+                WHILE => while_end(alloc, first.span, Items::new(alloc), rest, room),
+                LOOP_INVARIANT => invariant_loop(alloc, first.span, rest, room),
+                FOR => counted(alloc, first.span, rest, room),
+                PAR => parallel(alloc, first.span, rest, room),
+                BARRIER => barrier(alloc, first.span, rest, room),
+                FORK => action(alloc, Action::Fork, first.span, rest, room),
+                JOIN => action(alloc, Action::Join, first.span, rest, room),
+                LOCK => action(alloc, Action::Lock, first.span, rest, room),
+                UNLOCK => action(alloc, Action::Unlock, first.span, rest, room),
+                COMMIT => action(alloc, Action::Commit, first.span, rest, room),
+                FOLD => folding(alloc, false, first.span, rest, room),
+                UNFOLD => folding(alloc, true, first.span, rest, room),
+                ASSERT => assertion(alloc, first.span, rest, room),
+                SEND => send(alloc, first.span, rest, room),
+                RECV => recv(first.span, rest),
+                RETURN => returned(alloc, first.span, rest, room),
+                _ => Err(ReadFault::Unexpected(tokens.len())),
             },
         },
-    }
-}
-
-/// A statement that begins with a word of its own.
-#[cycle(statement)]
-#[tactic(auto, unfolding(crate::specs::Reading::block_stmt))]
-fn block_statement<'a>(
-    alloc: Global,
-    tokens: &'a [Lexeme],
-    room: u32,
-) -> Result<(Stmt, &'a [Lexeme]), ReadFault>
-    ensures { Gives (λ x. x.0) (λ x. x.1.now) result (reading.block_stmt (deeper room) (deeper_blocks room) tokens.now) }
-{
-    match after(tokens, IF) {
-        Some((first, rest)) => choice(alloc, first, rest, room),
-        None => match after(tokens, WHILE) {
-            Some((first, rest)) => while_end(alloc, first, Items::new(alloc), rest, room),
-            None => match after(tokens, LOOP_INVARIANT) {
-                Some((first, rest)) => invariant_loop(alloc, first, rest, room),
-                None => range_statement(alloc, tokens, room),
-            },
-        },
-    }
-}
-
-/// A loop over a range, or any statement of one line that begins with a word of its own.
-#[cycle(statement)]
-fn range_statement<'a>(
-    alloc: Global,
-    tokens: &'a [Lexeme],
-    room: u32,
-) -> Result<(Stmt, &'a [Lexeme]), ReadFault>
-    ensures { Gives (λ x. x.0) (λ x. x.1.now) result (fixed sign.FOR (reading.counted (deeper room) (deeper_blocks room)) (fixed sign.PAR (reading.parallel (deeper room) (deeper_blocks room)) (fixed sign.BARRIER (reading.barrier (deeper room) (deeper_blocks room)) (reading.word_stmt (deeper room)))) tokens.now) }
-{
-    match after(tokens, FOR) {
-        Some((first, rest)) => counted(alloc, first, rest, room),
-        None => match after(tokens, PAR) {
-            Some((first, rest)) => parallel(alloc, first, rest, room),
-            None => match after(tokens, BARRIER) {
-                Some((first, rest)) => barrier(alloc, first, rest, room),
-                None => word_statement(alloc, tokens, room),
-            },
-        },
+        None => Err(ReadFault::Unexpected(tokens.len())),
     }
 }
 

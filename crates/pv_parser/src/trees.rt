@@ -9,7 +9,7 @@ use pv_ast::{
     Predicate, PvType, Range, Right, RightKind, RunMethod, Stmt, StmtKind, TypeWord, Word,
 };
 use pv_base::Span;
-use pv_exprs::Part;
+use pv_exprs::{Part, start_of};
 use pv_reading::across;
 
 /// The type whose one word stands at `first`.
@@ -58,21 +58,8 @@ fn tree_of(part: Option<Part>) -> Option<Expr>
     ensures { result ≡ parts.tree_of part }
 {
     match part {
-        Some(part) => {
-            let Part { tree, span: _ } = part;
-            Some(tree)
-        }
+        Some(part) => Some(part.into_tree()),
         None => None,
-    }
-}
-
-/// Where a name on a receiver begins.
-fn start_of(receiver: &Option<Part>, name: Word) -> Span
-    ensures { result ≡ parts.start_of receiver.now name }
-{
-    match receiver {
-        Some(part) => part.span,
-        None => name.span,
     }
 }
 
@@ -112,10 +99,9 @@ pub fn new_object(first: Span, class: Word, last: Span) -> Right
 pub fn new_array(first: Span, element: TypeWord, length: Part, last: Span) -> Right
     ensures { result ≡ trees.new_array first element length last }
 {
-    let Part { tree, span: _ } = length;
     Right {
         span: across(first, last),
-        kind: RightKind::NewArray(element, tree),
+        kind: RightKind::NewArray(element, length.into_tree()),
     }
 }
 
@@ -123,12 +109,11 @@ pub fn new_array(first: Span, element: TypeWord, length: Part, last: Span) -> Ri
 pub fn range_of(name: Word, low: Part, high: Part) -> Range
     ensures { result ≡ trees.range_of name low high }
 {
-    let Part { tree: low, span: _ } = low;
-    let Part {
-        tree: high,
-        span: _,
-    } = high;
-    Range { name, low, high }
+    Range {
+        name,
+        low: low.into_tree(),
+        high: high.into_tree(),
+    }
 }
 
 fn statement_of(first: Span, last: Span, kind: StmtKind) -> Stmt
@@ -167,8 +152,7 @@ pub fn call_statement(receiver: Option<Part>, name: Word, args: Args, last: Span
 pub fn if_statement(first: Span, condition: Part, yes: Block, no: Block, last: Span) -> Stmt
     ensures { result ≡ trees.if_stmt first condition yes no last }
 {
-    let Part { tree, span: _ } = condition;
-    statement_of(first, last, StmtKind::If(tree, yes, no))
+    statement_of(first, last, StmtKind::If(condition.into_tree(), yes, no))
 }
 
 /// A loop, from its first word at `first` up to the end of its body at `last`.
@@ -181,8 +165,8 @@ pub fn while_statement(
 ) -> Stmt
     ensures { result ≡ trees.while_stmt first invariants condition body last }
 {
-    let Part { tree, span: _ } = condition;
-    statement_of(first, last, StmtKind::While(invariants, tree, body))
+    let kind = StmtKind::While(invariants, condition.into_tree(), body);
+    statement_of(first, last, kind)
 }
 
 /// A loop over a range, from the `for` at `first` up to the end of its body at `last`.
@@ -222,7 +206,7 @@ pub fn barrier_statement(first: Span, label: Word, clauses: Clauses, last: Span)
 pub fn action_statement(action: Action, first: Span, object: Part, last: Span) -> Stmt
     ensures { result ≡ trees.action_stmt action first object last }
 {
-    let Part { tree, span: _ } = object;
+    let tree = object.into_tree();
     let kind = match action {
         Action::Fork => StmtKind::Fork(tree),
         Action::Join => StmtKind::Join(tree),
@@ -257,16 +241,15 @@ pub fn folding_statement(
 pub fn assert_statement(first: Span, claim: Part, last: Span) -> Stmt
     ensures { result ≡ trees.assert_stmt first claim last }
 {
-    let Part { tree, span: _ } = claim;
-    statement_of(first, last, StmtKind::Assert(tree))
+    statement_of(first, last, StmtKind::Assert(claim.into_tree()))
 }
 
 /// A message that is sent, from the `send` at `first` up to the semicolon at `last`.
 pub fn send_statement(first: Span, label: Word, distance: u64, message: Part, last: Span) -> Stmt
     ensures { result ≡ trees.send_stmt first label distance message last }
 {
-    let Part { tree, span: _ } = message;
-    statement_of(first, last, StmtKind::Send(label, distance, tree))
+    let kind = StmtKind::Send(label, distance, message.into_tree());
+    statement_of(first, last, kind)
 }
 
 /// A message that is received, from the `recv` at `first` up to the semicolon at `last`.
@@ -287,15 +270,11 @@ pub fn return_statement(first: Span, value: Option<Expr>, last: Span) -> Stmt
 pub fn predicate_of(first: Span, name: Word, params: Params, body: Part, last: Span) -> Member
     ensures { result ≡ trees.predicate_of first name params body last }
 {
-    let Part {
-        tree: body,
-        span: _,
-    } = body;
     Member::Predicate(Predicate {
         span: across(first, last),
         name,
         params,
-        body,
+        body: body.into_tree(),
     })
 }
 

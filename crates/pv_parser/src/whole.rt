@@ -1,11 +1,8 @@
 //! The call that reads a whole program.
-ghost use Rattle.std.specs.Prelude.{◌≡◌, List, Option};
 ghost use Rattle.pv_ast.specs.declared.Program.{Program};
-ghost use Rattle.pv_base.specs.declared.Name.{Name};
-ghost use Rattle.pv_tokens.specs.declared.Lexeme.{Lexeme};
 ghost use Rattle.pv_exprs.specs.Spelled.{limit};
 ghost use Rattle.pv_reading.specs.Answers.{ReadsAll, Answers};
-ghost use Rattle.pv_reading.specs.Spelled.{Spells, SpellsWithin};
+ghost use Rattle.pv_reading.specs.Spelled.{SpellsWithin};
 ghost use Rattle.pv_parser.specs.Grammar.{IsProgram};
 
 use crate::classes::read_program;
@@ -37,8 +34,3 @@ pub fn program(alloc: Global, tokens: &Tokens) -> Result<Program, ParseFault>
         Err(fault) => Err(placed(items, tokens.end, fault)),
     }
 }
-
-/// Tokens spell at most one program, at whatever depth.
-pub fn one_tree()
-    ensures { (lexemes : List Lexeme) (length : Option Name) (a b : Program) → Spells (IsProgram length) lexemes a → Spells (IsProgram length) lexemes b → a ≡ b }
-{}

@@ -1,12 +1,10 @@
 //! What words of types and statements mean.
-ghost use Rattle.std.specs.Prelude.{◌≡◌, Some, None, MatchOption};
+ghost use Rattle.std.specs.Prelude.{◌≡◌, [], ◌∷◌, Some, None, MatchOption};
 ghost use Rattle.pv_reading.specs.Given.{ahead};
-ghost use Rattle.pv_parser.specs.Words.{base_of, action_of, folding_of, class_of};
+ghost use Rattle.pv_parser.specs.Words.{base_of, class_of};
 
 use pv_base::Span;
-use pv_tokens::fixed::{
-    BOOL, BOOLEAN, CLASS, COMMIT, FOLD, FORK, INT, JOIN, LOCK, LOCK_INVARIANT, UNFOLD, UNLOCK,
-};
+use pv_tokens::fixed::{BOOL, BOOLEAN, CLASS, INT, LOCK_INVARIANT};
 use pv_tokens::{Lexeme, LexemeKind};
 
 /// The element types of arrays, which are types too.
@@ -41,37 +39,6 @@ fn base_kind(kind: LexemeKind) -> Option<Base>
     }
 }
 
-fn action_kind(kind: LexemeKind) -> Option<Action>
-    ensures { result ≡ action_of kind }
-{
-    match kind {
-        LexemeKind::Fixed(number) => match number {
-            FORK => Some(Action::Fork),
-            JOIN => Some(Action::Join),
-            LOCK => Some(Action::Lock),
-            UNLOCK => Some(Action::Unlock),
-            COMMIT => Some(Action::Commit),
-            _ => None,
-        },
-        LexemeKind::Named(_) => None,
-        LexemeKind::Number(_) => None,
-    }
-}
-
-fn folding_kind(kind: LexemeKind) -> Option<bool>
-    ensures { result ≡ folding_of kind }
-{
-    match kind {
-        LexemeKind::Fixed(number) => match number {
-            FOLD => Some(false),
-            UNFOLD => Some(true),
-            _ => None,
-        },
-        LexemeKind::Named(_) => None,
-        LexemeKind::Number(_) => None,
-    }
-}
-
 fn class_kind(kind: LexemeKind) -> Option<bool>
     ensures { result ≡ class_of kind }
 {
@@ -86,6 +53,16 @@ fn class_kind(kind: LexemeKind) -> Option<bool>
     }
 }
 
+/// The first token, and the tokens behind it.
+pub fn first_token(tokens: &[Lexeme]) -> Option<(Lexeme, &[Lexeme])>
+    ensures { MatchOption result (tokens.now ≡ []) (λ x. tokens.now ≡ x.0 ∷ x.1.now) }
+{
+    match tokens {
+        [first, rest @ ..] => Some((*first, rest)),
+        [] => None,
+    }
+}
+
 /// The element type that comes first, where it stands, and the tokens behind it.
 pub fn base_word(tokens: &[Lexeme]) -> Option<(Base, Span, &[Lexeme])>
     ensures { MatchOption result (ahead base_of tokens.now ≡ None) (λ x. ahead base_of tokens.now ≡ Some (x.0, x.1, x.2.now)) }
@@ -93,32 +70,6 @@ pub fn base_word(tokens: &[Lexeme]) -> Option<(Base, Span, &[Lexeme])>
     match tokens {
         [first, rest @ ..] => match base_kind(first.kind) {
             Some(base) => Some((base, first.span, rest)),
-            None => None,
-        },
-        [] => None,
-    }
-}
-
-/// The action whose word comes first, where that stands, and the tokens behind it.
-pub fn action_word(tokens: &[Lexeme]) -> Option<(Action, Span, &[Lexeme])>
-    ensures { MatchOption result (ahead action_of tokens.now ≡ None) (λ x. ahead action_of tokens.now ≡ Some (x.0, x.1, x.2.now)) }
-{
-    match tokens {
-        [first, rest @ ..] => match action_kind(first.kind) {
-            Some(action) => Some((action, first.span, rest)),
-            None => None,
-        },
-        [] => None,
-    }
-}
-
-/// Whether the `fold` or `unfold` that comes first unfolds, where it stands, and the tokens behind it.
-pub fn folding_word(tokens: &[Lexeme]) -> Option<(bool, Span, &[Lexeme])>
-    ensures { MatchOption result (ahead folding_of tokens.now ≡ None) (λ x. ahead folding_of tokens.now ≡ Some (x.0, x.1, x.2.now)) }
-{
-    match tokens {
-        [first, rest @ ..] => match folding_kind(first.kind) {
-            Some(unfolds) => Some((unfolds, first.span, rest)),
             None => None,
         },
         [] => None,

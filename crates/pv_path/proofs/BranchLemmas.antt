@@ -32,15 +32,18 @@ branch_literals-append (Open l ∷ xs) ys = ap (λ ls. l ∷ ls) (branch_literal
 branch_literals-append (Closed l ∷ xs) ys = ap (λ ls. l ∷ ls) (branch_literals-append xs ys)
 branch_literals-append (Turned t ∷ xs) ys = branch_literals-append xs ys
 
-pub decisions_behind-append : (ds : List Decision) (xs ys : List Branch) → decisions_behind ds (xs ++ ys) ≡ decisions_behind (decisions_behind ds xs) ys
+pub decisions_behind-append : (ds : List Decision) (xs ys : List Branch) → decisions_behind ds (xs ++ ys)
+    ≡ decisions_behind (decisions_behind ds xs) ys
 decisions_behind-append ds [] ys = refl
 decisions_behind-append ds (x ∷ xs) ys = decisions_behind-append (ds ++ decision_behind ds x ∷ []) xs ys
 
-pub sides_behind-append : (ds : List Decision) (xs ys : List Branch) → sides_behind ds (xs ++ ys) ≡ sides_behind ds xs ++ sides_behind (decisions_behind ds xs) ys
+pub sides_behind-append : (ds : List Decision) (xs ys : List Branch) → sides_behind ds (xs ++ ys) ≡ sides_behind ds xs
+    ++ sides_behind (decisions_behind ds xs) ys
 sides_behind-append ds [] ys = refl
 sides_behind-append ds (x ∷ xs) ys =
     let es : List Decision = ds ++ decision_behind ds x ∷ [] in
-    ap (λ ps. sides_at ds x ++ ps) (sides_behind-append es xs ys) ∙ sym (append_assoc (sides_at ds x) (sides_behind es xs) (sides_behind (decisions_behind es xs) ys))
+    ap (λ ps. sides_at ds x ++ ps) (sides_behind-append es xs ys)
+    ∙ sym (append_assoc (sides_at ds x) (sides_behind es xs) (sides_behind (decisions_behind es xs) ys))
 
 pub literals_in-append : (ds es : List Decision) → literals_in (ds ++ es) ≡ literals_in ds ++ literals_in es
 literals_in-append [] es = refl
@@ -48,11 +51,18 @@ literals_in-append (fact l ∷ ds) es = ap (λ ls. l ∷ ls) (literals_in-append
 literals_in-append (turn_is k n ∷ ds) es = literals_in-append ds es
 
 -- the literals of the decisions are those of the branches
-pub literals_behind : (ds : List Decision) (bs : List Branch) → literals_in (decisions_behind ds bs) ≡ literals_in ds ++ branch_literals bs
+pub literals_behind : (ds : List Decision) (bs : List Branch) → literals_in (decisions_behind ds bs) ≡ literals_in ds
+    ++ branch_literals bs
 literals_behind ds [] = sym (append-nil (literals_in ds))
-literals_behind ds (Open l ∷ bs) = literals_behind (ds ++ fact l ∷ []) bs ∙ ap (λ ls. ls ++ branch_literals bs) (literals_in-append ds (fact l ∷ [])) ∙ append_assoc (literals_in ds) (l ∷ []) (branch_literals bs)
-literals_behind ds (Closed l ∷ bs) = literals_behind (ds ++ fact l ∷ []) bs ∙ ap (λ ls. ls ++ branch_literals bs) (literals_in-append ds (fact l ∷ [])) ∙ append_assoc (literals_in ds) (l ∷ []) (branch_literals bs)
-literals_behind ds (Turned t ∷ bs) = literals_behind (ds ++ decision_behind ds (Turned t) ∷ []) bs ∙ ap (λ ls. ls ++ branch_literals bs) (literals_in-append ds (decision_behind ds (Turned t) ∷ []) ∙ append-nil (literals_in ds))
+literals_behind ds (Open l ∷ bs) = literals_behind (ds ++ fact l ∷ []) bs
+    ∙ ap (λ ls. ls ++ branch_literals bs) (literals_in-append ds (fact l ∷ []))
+    ∙ append_assoc (literals_in ds) (l ∷ []) (branch_literals bs)
+literals_behind ds (Closed l ∷ bs) = literals_behind (ds ++ fact l ∷ []) bs
+    ∙ ap (λ ls. ls ++ branch_literals bs) (literals_in-append ds (fact l ∷ []))
+    ∙ append_assoc (literals_in ds) (l ∷ []) (branch_literals bs)
+literals_behind ds (Turned t ∷ bs) = literals_behind (ds ++ decision_behind ds (Turned t) ∷ []) bs
+    ∙ ap (λ ls. ls ++ branch_literals bs) (literals_in-append ds (decision_behind ds (Turned t) ∷ [])
+    ∙ append-nil (literals_in ds))
 
 pub literals_of_decisions : (bs : List Branch) → literals_in (decisions_of bs) ≡ branch_literals bs
 literals_of_decisions bs = literals_behind [] bs
@@ -70,11 +80,15 @@ closed_sides ds [] h = refl
 closed_sides ds (b ∷ bs) h = rw (sides_none ds b h.0) (closed_sides _ bs h.1)
 
 -- the next side is the last one
-side_over : (ds : List Decision) (b other : Branch) → turned_over b ≡ Some other → sides_at ds b ≡ sides_at ds other ++ (ds ++ decision_behind ds other ∷ []) ∷ []
-side_over ds (Open l) other h = let e : Closed (opposite l) ≡ other = cc h in subst (λ (o : Branch). sides_at ds (Open l) ≡ sides_at ds o ++ (ds ++ decision_behind ds o ∷ []) ∷ []) e refl
+side_over : (ds : List Decision) (b other : Branch) → turned_over b ≡ Some other → sides_at ds b ≡ sides_at ds other
+    ++ (ds ++ decision_behind ds other ∷ []) ∷ []
+side_over ds (Open l) other h = let e : Closed (opposite l) ≡ other = cc h in
+    subst (λ (o : Branch). sides_at ds (Open l) ≡ sides_at ds o ++ (ds ++ decision_behind ds o ∷ []) ∷ []) e refl
 side_over ds (Closed l) other h = cc h
-side_over ds (Turned First) other h = let e : Turned Second ≡ other = cc h in subst (λ (o : Branch). sides_at ds (Turned First) ≡ sides_at ds o ++ (ds ++ decision_behind ds o ∷ []) ∷ []) e refl
-side_over ds (Turned Second) other h = let e : Turned Third ≡ other = cc h in subst (λ (o : Branch). sides_at ds (Turned Second) ≡ sides_at ds o ++ (ds ++ decision_behind ds o ∷ []) ∷ []) e refl
+side_over ds (Turned First) other h = let e : Turned Second ≡ other = cc h in
+    subst (λ (o : Branch). sides_at ds (Turned First) ≡ sides_at ds o ++ (ds ++ decision_behind ds o ∷ []) ∷ []) e refl
+side_over ds (Turned Second) other h = let e : Turned Third ≡ other = cc h in
+    subst (λ (o : Branch). sides_at ds (Turned Second) ≡ sides_at ds o ++ (ds ++ decision_behind ds o ∷ []) ∷ []) e refl
 side_over ds (Turned Third) other h = cc h
 
 -- after the turn the path is what was the last open side, and the others are still open
@@ -82,13 +96,17 @@ pub next_part : (old new : List Branch) → IsTurnedOver old new → sides_of ol
 next_part old new o =
     ap sides_of o.were
     ∙ sides_behind-append [] o.kept (o.last ∷ o.gone)
-    ∙ ap (λ ps. sides_of o.kept ++ ps) (ap (λ ps. sides_at (decisions_of o.kept) o.last ++ ps) (closed_sides _ o.gone o.closed) ∙ append-nil _ ∙ side_over (decisions_of o.kept) o.last o.other o.over)
+    ∙ ap (λ ps. sides_of o.kept ++ ps) (ap (λ ps. sides_at (decisions_of o.kept) o.last ++ ps) (closed_sides _ o.gone o.closed)
+    ∙ append-nil _ ∙ side_over (decisions_of o.kept) o.last o.other o.over)
     ∙ sym (append_assoc (sides_of o.kept) (sides_at (decisions_of o.kept) o.other) _)
-    ∙ ap (λ ps. ps ++ (decisions_of o.kept ++ decision_behind (decisions_of o.kept) o.other ∷ []) ∷ []) (ap (λ ps. sides_of o.kept ++ ps) (sym (append-nil _)) ∙ sym (sides_behind-append [] o.kept (o.other ∷ [])) ∙ ap sides_of (sym o.are))
+    ∙ ap (λ ps. ps ++ (decisions_of o.kept ++ decision_behind (decisions_of o.kept) o.other ∷ []) ∷ [])
+    (ap (λ ps. sides_of o.kept ++ ps) (sym (append-nil _)) ∙ sym (sides_behind-append [] o.kept (o.other ∷ []))
+    ∙ ap sides_of (sym o.are))
     ∙ ap (λ ds. sides_of new ++ ds ∷ []) (sym (decisions_behind-append [] o.kept (o.other ∷ [])) ∙ ap decisions_of (sym o.are))
 
 -- the next side of a path, and what the path is on it
-pub over_next : (bs : List Branch) (place : ℕ) (other : Branch) → IsNextSide bs place other → IsTurnedOver bs (take place bs ++ other ∷ [])
+pub over_next : (bs : List Branch) (place : ℕ) (other : Branch) → IsNextSide bs place other
+    → IsTurnedOver bs (take place bs ++ other ∷ [])
 over_next bs place other n = record {
   kept = take place bs;
   last = n.last;
@@ -101,7 +119,8 @@ over_next bs place other n = record {
 }
 
 -- a branch more
-pub decisions_more : (bs : List Branch) (b : Branch) → decisions_of (bs ++ b ∷ []) ≡ decisions_of bs ++ decision_behind (decisions_of bs) b ∷ []
+pub decisions_more : (bs : List Branch) (b : Branch) → decisions_of (bs ++ b ∷ []) ≡ decisions_of bs
+    ++ decision_behind (decisions_of bs) b ∷ []
 decisions_more bs b = decisions_behind-append [] bs (b ∷ [])
 
 pub sides_more : (bs : List Branch) (b : Branch) → sides_of (bs ++ b ∷ []) ≡ sides_of bs ++ sides_at (decisions_of bs) b
@@ -128,10 +147,15 @@ span_of-append [] ys = omega arith
 span_of-append (x ∷ xs) ys = omega (arith, span_of-append xs ys)
 
 -- the bound of one branch
-pub span_at : (bs : List Branch) (i : ℕ) (d : Branch) → i < length bs → span_of (branch_literals (slice_index_or bs i d ∷ [])) ≤ span_of (branch_literals bs)
+pub span_at : (bs : List Branch) (i : ℕ) (d : Branch) → i < length bs
+    → span_of (branch_literals (slice_index_or bs i d ∷ [])) ≤ span_of (branch_literals bs)
 span_at [] i d lt = absurd (omega arith)
-span_at (b ∷ bs) zero d lt = rw (branch_literals-append (b ∷ []) bs, span_of-append (branch_literals (b ∷ [])) (branch_literals bs)) (omega arith)
-span_at (b ∷ bs) (suc i) d lt = let h = span_at bs i d (omega arith) in rw (branch_literals-append (b ∷ []) bs, span_of-append (branch_literals (b ∷ [])) (branch_literals bs)) (omega (arith, h))
+span_at (b ∷ bs) zero d lt = rw (
+  branch_literals-append (b ∷ []) bs,
+  span_of-append (branch_literals (b ∷ [])) (branch_literals bs),
+) (omega arith)
+span_at (b ∷ bs) (suc i) d lt = let h = span_at bs i d (omega arith) in
+    rw (branch_literals-append (b ∷ []) bs, span_of-append (branch_literals (b ∷ [])) (branch_literals bs)) (omega (arith, h))
 
 -- the member at a place
 pub get_at : {A : Type 0} (xs : List A) (i : ℕ) (d : A) → i < length xs → slice_get xs i ≡ Some (slice_index_or xs i d)
@@ -139,7 +163,8 @@ get_at [] i d lt = absurd (omega arith)
 get_at (x ∷ xs) zero d lt = refl
 get_at (x ∷ xs) (suc i) d lt = get_at xs i d (omega arith)
 
-pub next_at : (bs : List Branch) (n : ℕ) (d other : Branch) → 0 < n → n ≤ length bs → turned_over (slice_index_or bs (n - 1) d) ≡ Some other → AllClosed (drop n bs) → IsNextSide bs (n - 1) other
+pub next_at : (bs : List Branch) (n : ℕ) (d other : Branch) → 0 < n → n ≤ length bs → turned_over (slice_index_or bs (n - 1) d)
+    ≡ Some other → AllClosed (drop n bs) → IsNextSide bs (n - 1) other
 next_at bs n d other some within over closed = let e : suc (n - 1) ≡ n = omega (arith, some) in record {
   last = slice_index_or bs (n - 1) d;
   there = get_at bs (n - 1) d (omega (arith, some, within));
@@ -147,7 +172,8 @@ next_at bs n d other some within over closed = let e : suc (n - 1) ≡ n = omega
   closed = subst (λ (k : ℕ). AllClosed (drop k bs)) (sym e) closed;
 }
 
-pub span_within : (bs : List Branch) (i : ℕ) (d : Branch) (n : ℕ) → i < length bs → span_of (branch_literals bs) ≤ n → span_of (branch_literals (slice_index_or bs i d ∷ [])) ≤ n
+pub span_within : (bs : List Branch) (i : ℕ) (d : Branch) (n : ℕ) → i < length bs → span_of (branch_literals bs) ≤ n
+    → span_of (branch_literals (slice_index_or bs i d ∷ [])) ≤ n
 span_within bs i d n lt h = omega (arith, span_at bs i d lt, h)
 
 -- a literal is no turn

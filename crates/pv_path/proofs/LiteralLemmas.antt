@@ -17,7 +17,8 @@ highest_among-append [] ys = omega arith
 highest_among-append (x ∷ xs) ys = omega (arith, highest_among-append xs ys)
 
 -- a literal of the list holds where all do
-pub meets_at : (v : Values) (ls : List Literal) (i : ℕ) (d l : Literal) → i < length ls → slice_index_or ls i d ≡ l → Meets v ls → Holds v l
+pub meets_at : (v : Values) (ls : List Literal) (i : ℕ) (d l : Literal) → i < length ls → slice_index_or ls i d ≡ l → Meets v ls
+    → Holds v l
 meets_at v [] i d l lt e h = absurd (omega arith)
 meets_at v (x ∷ xs) zero d l lt e h = subst (Holds v) e h.0
 meets_at v (x ∷ xs) (suc i) d l lt e h = meets_at v xs i d l (omega arith) e h.1
@@ -37,9 +38,12 @@ changed_elsewhere v k z (suc j) n = search rules
 
 -- literals without a symbol don't see its number
 free_same : (v : Values) (k : ℕ) (z : ℤ) (l : Literal) → (HasSymbol l (suc k) → ⊥) → Holds v l → Holds (changed v k z) l
-free_same v k z (AtMost x y c) free h = let p = changed_elsewhere v k z x.0 (λ e. free (inl e)) in let q = changed_elsewhere v k z y.0 (λ e. free (inr e)) in rw (p, q) h
-free_same v k z (Same x y) free h = let p = changed_elsewhere v k z x.0 (λ e. free (inl e)) in let q = changed_elsewhere v k z y.0 (λ e. free (inr e)) in rw (p, q) h
-free_same v k z (Differ x y) free h = let p = changed_elsewhere v k z x.0 (λ e. free (inl e)) in let q = changed_elsewhere v k z y.0 (λ e. free (inr e)) in rw (p, q) h
+free_same v k z (AtMost x y c) free h = let p = changed_elsewhere v k z x.0 (λ e. free (inl e)) in let q =
+    changed_elsewhere v k z y.0 (λ e. free (inr e)) in rw (p, q) h
+free_same v k z (Same x y) free h = let p = changed_elsewhere v k z x.0 (λ e. free (inl e)) in let q =
+    changed_elsewhere v k z y.0 (λ e. free (inr e)) in rw (p, q) h
+free_same v k z (Differ x y) free h = let p = changed_elsewhere v k z x.0 (λ e. free (inl e)) in let q =
+    changed_elsewhere v k z y.0 (λ e. free (inr e)) in rw (p, q) h
 
 meets_free : (v : Values) (k : ℕ) (z : ℤ) (ls : List Literal) → AreWithout ls (suc k) → Meets v ls → Meets (changed v k z) ls
 meets_free v k z [] free h = tt
@@ -59,12 +63,17 @@ free_first v l ls x y z free apart met holds =
     let w : Values = changed v k z in
     let one : number_of w x.0 ≡ z = ap (number_of w) is ∙ changed_there v k z in
     let other : number_of w y.0 ≡ number_of v y.0 = changed_elsewhere v k z y.0 (λ e. apart (symbol_same x y (is ∙ sym e))) in
-    ∣ record { values = w; meets = Meets-append w ls (l ∷ []) (meets_free v k z ls (subst (AreWithout ls) is free.1) met) (holds w one other, tt) } ∣₁
+    ∣ record {
+      values = w;
+      meets = Meets-append w ls (l ∷ []) (meets_free v k z ls (subst (AreWithout ls) is free.1) met)
+          (holds w one other, tt);
+    } ∣₁
 
 free_met : (v : Values) (l : Literal) (ls : List Literal) → HasFreeSymbol ls l → Meets v ls → CanBeMet (ls ++ l ∷ [])
 free_met v (AtMost x y c) ls h met = elim h.1 [
   | inl f ↦ free_first v (AtMost x y c) ls x y (number_of v y.0 +ℤ c) f h.0 met (λ w p q. omega (arith, ints, p, q))
-  | inr f ↦ free_first v (AtMost x y c) ls y x (number_of v x.0 -ℤ c) f (λ e. h.0 (sym e)) met (λ w p q. omega (arith, ints, p, q))
+  | inr f ↦ free_first v (AtMost x y c) ls y x (number_of v x.0 -ℤ c) f (λ e. h.0 (sym e)) met
+      (λ w p q. omega (arith, ints, p, q))
 ]
 free_met v (Same x y) ls h met = elim h.1 [
   | inl f ↦ free_first v (Same x y) ls x y (number_of v y.0) f h.0 met (λ w p q. p ∙ sym q)
@@ -72,7 +81,8 @@ free_met v (Same x y) ls h met = elim h.1 [
 ]
 free_met v (Differ x y) ls h met = elim h.1 [
   | inl f ↦ free_first v (Differ x y) ls x y (number_of v y.0 +ℤ pos 1) f h.0 met (λ w p q e. omega (arith, ints, p, q, e))
-  | inr f ↦ free_first v (Differ x y) ls y x (number_of v x.0 +ℤ pos 1) f (λ e. h.0 (sym e)) met (λ w p q e. omega (arith, ints, p, q, e))
+  | inr f ↦ free_first v (Differ x y) ls y x (number_of v x.0 +ℤ pos 1) f (λ e. h.0 (sym e)) met
+      (λ w p q e. omega (arith, ints, p, q, e))
 ]
 
 free_opposite : (ls : List Literal) (l : Literal) → HasFreeSymbol ls l → HasFreeSymbol ls (opposite l)
@@ -90,9 +100,18 @@ free_open l ls h met = (
 -- a symbol above all those of the literals is free
 above_free : (ls : List Literal) (k : ℕ) → highest_among ls < k → AreWithout ls k
 above_free [] k h = tt
-above_free (AtMost x y c ∷ ls) k h = ((λ n. elim n [ inl e ↦ omega (arith, e, h) | inr e ↦ omega (arith, e, h) ]), above_free ls k (omega (arith, h)))
-above_free (Same x y ∷ ls) k h = ((λ n. elim n [ inl e ↦ omega (arith, e, h) | inr e ↦ omega (arith, e, h) ]), above_free ls k (omega (arith, h)))
-above_free (Differ x y ∷ ls) k h = ((λ n. elim n [ inl e ↦ omega (arith, e, h) | inr e ↦ omega (arith, e, h) ]), above_free ls k (omega (arith, h)))
+above_free (AtMost x y c ∷ ls) k h = (
+  (λ n. elim n [ inl e ↦ omega (arith, e, h) | inr e ↦ omega (arith, e, h) ]),
+  above_free ls k (omega (arith, h)),
+)
+above_free (Same x y ∷ ls) k h = (
+  (λ n. elim n [ inl e ↦ omega (arith, e, h) | inr e ↦ omega (arith, e, h) ]),
+  above_free ls k (omega (arith, h)),
+)
+above_free (Differ x y ∷ ls) k h = (
+  (λ n. elim n [ inl e ↦ omega (arith, e, h) | inr e ↦ omega (arith, e, h) ]),
+  above_free ls k (omega (arith, h)),
+)
 
 above_either : (ls : List Literal) (m n k : ℕ) → highest_among ls ≤ k → k < max m n → IsFree ls m ⊎ IsFree ls n
 above_either ls m n k low lt = elim (below_or k m) [

@@ -54,14 +54,16 @@ three (suc (suc zero)) h = inr (inr refl)
 three (suc (suc (suc n))) h = absurd (omega arith)
 
 -- what agrees with the decisions before a new one agrees with that one, or stands on one of its sides
-covers_literal : (e : Evidence) (ds : List Decision) (l : Literal) → Agrees e ds → Agrees e (ds ++ fact l ∷ []) ⊎ StandsAmong e (sides_at ds (Open l))
+covers_literal : (e : Evidence) (ds : List Decision) (l : Literal) → Agrees e ds
+    → Agrees e (ds ++ fact l ∷ []) ⊎ StandsAmong e (sides_at ds (Open l))
 unfolding StandsAmong
 covers_literal e ds l h = elim (holds_or e.values l true) [
   | inl k ↦ inl (Agrees-append-one e ds (fact l) h k)
   | inr k ↦ inr (inl (Agrees-append-one e ds (fact (opposite l)) h (opposite_holds e.values l k)))
 ]
 
-covers_turn : (e : Evidence) (ds : List Decision) → HasTurns e → Agrees e ds → Agrees e (with_turn ds 0) ⊎ StandsAmong e (sides_at ds (Turned First))
+covers_turn : (e : Evidence) (ds : List Decision) → HasTurns e → Agrees e ds
+    → Agrees e (with_turn ds 0) ⊎ StandsAmong e (sides_at ds (Turned First))
 unfolding StandsAmong
 covers_turn e ds t h = elim (three (e.turns (length (turns_in ds))) (t (length (turns_in ds)))) [
   | inl k ↦ inl (Agrees-append-one e ds (turn_is (length (turns_in ds)) 0) h k)
@@ -83,11 +85,14 @@ within e ds (Turned Second) (inr h) = absurd h
 within e ds (Turned Third) h = absurd h
 
 -- a branch more loses nothing, where what agreed is covered, and adds nothing
-stands_more : (e : Evidence) (bs new : List Branch) (b : Branch) → new ≡ bs ++ b ∷ [] → (Agrees e (decisions_of bs) → Agrees e (decisions_of bs ++ decision_behind (decisions_of bs) b ∷ []) ⊎ StandsAmong e (sides_at (decisions_of bs) b)) → Stands e bs → Stands e new
+stands_more : (e : Evidence) (bs new : List Branch) (b : Branch) → new ≡ bs ++ b ∷ []
+    → (Agrees e (decisions_of bs) → Agrees e (decisions_of bs ++ decision_behind (decisions_of bs) b ∷ []) ⊎ StandsAmong e
+    (sides_at (decisions_of bs) b)) → Stands e bs → Stands e new
 unfolding Stands StandsAmong
 stands_more e bs new b is covers h = subst (Stands e) (sym is) (h.0, go h.1)
   where
-    go : Agrees e (decisions_of bs) ⊎ StandsAmong e (sides_of bs) → Agrees e (decisions_of (bs ++ b ∷ [])) ⊎ StandsAmong e (sides_of (bs ++ b ∷ []))
+    go : Agrees e (decisions_of bs) ⊎ StandsAmong e (sides_of bs)
+        → Agrees e (decisions_of (bs ++ b ∷ [])) ⊎ StandsAmong e (sides_of (bs ++ b ∷ []))
     go (inl a) = elim (covers a) [
       | inl k ↦ inl (subst (Agrees e) (sym (decisions_more bs b)) k)
       | inr k ↦ inr (subst (StandsAmong e) (sym (sides_more bs b)) (stands_right e (sides_of bs) _ k))
@@ -98,7 +103,8 @@ pub stands_less : (e : Evidence) (bs new : List Branch) (b : Branch) → new ≡
 unfolding Stands StandsAmong
 stands_less e bs new b is h = let k : Stands e (bs ++ b ∷ []) = subst (Stands e) is h in (k.0, go k.1)
   where
-    go : Agrees e (decisions_of (bs ++ b ∷ [])) ⊎ StandsAmong e (sides_of (bs ++ b ∷ [])) → Agrees e (decisions_of bs) ⊎ StandsAmong e (sides_of bs)
+    go : Agrees e (decisions_of (bs ++ b ∷ [])) ⊎ StandsAmong e (sides_of (bs ++ b ∷ []))
+        → Agrees e (decisions_of bs) ⊎ StandsAmong e (sides_of bs)
     go (inl a) = inl (Agrees-front e (decisions_of bs) _ (subst (Agrees e) (decisions_more bs b) a))
     go (inr a) = elim (stands_either e (sides_of bs) (sides_at (decisions_of bs) b) (subst (StandsAmong e) (sides_more bs b) a)) [
       | inl k ↦ inr k
@@ -122,14 +128,16 @@ front_behind : (e : Evidence) (ds : List Decision) (bs : List Branch) → Agrees
 front_behind e ds [] h = h
 front_behind e ds (b ∷ bs) h = Agrees-front e ds _ (front_behind e (ds ++ decision_behind ds b ∷ []) bs h)
 
-among_stands : (e : Evidence) (parts : List (List Decision)) (p : List Decision) → Among parts p → Agrees e p → StandsAmong e parts
+among_stands : (e : Evidence) (parts : List (List Decision)) (p : List Decision) → Among parts p → Agrees e p
+    → StandsAmong e parts
 unfolding StandsAmong
 among_stands e [] p h a = absurd h
 among_stands e (x ∷ xs) p (inl h) a = inl (subst (Agrees e) (sym h) a)
 among_stands e (x ∷ xs) p (inr h) a = inr (among_stands e xs p h a)
 
 -- and so does what stands on an open side
-side_behind : (e : Evidence) (ds : List Decision) (bs : List Branch) (p : List Decision) → Among (sides_behind ds bs) p → Agrees e p → Agrees e ds
+side_behind : (e : Evidence) (ds : List Decision) (bs : List Branch) (p : List Decision) → Among (sides_behind ds bs) p
+    → Agrees e p → Agrees e ds
 side_behind e ds [] p h a = absurd h
 side_behind e ds (b ∷ bs) p h a = elim (among_either (sides_at ds b) (sides_behind (ds ++ decision_behind ds b ∷ []) bs) p h) [
   | inl k ↦ within e ds b (among_stands e (sides_at ds b) p k a)
@@ -137,7 +145,8 @@ side_behind e ds (b ∷ bs) p h a = elim (among_either (sides_at ds b) (sides_be
 ]
 
 -- nothing stands on a side of a decision and agrees with it
-off_side : (e : Evidence) (ds : List Decision) (b : Branch) → StandsAmong e (sides_at ds b) → Agrees e (ds ++ decision_behind ds b ∷ []) → ⊥
+off_side : (e : Evidence) (ds : List Decision) (b : Branch) → StandsAmong e (sides_at ds b)
+    → Agrees e (ds ++ decision_behind ds b ∷ []) → ⊥
 unfolding StandsAmong
 off_side e ds (Open l) (inl h) a = opposite_denies e.values l (Agrees-last e ds _ h) (Agrees-last e ds _ a)
 off_side e ds (Open l) (inr h) a = h
@@ -156,51 +165,69 @@ sides_apart ds (Closed l) = tt
 sides_apart ds (Turned First) = (first, ((λ es h. absurd h), tt))
   where
     first : (es : List Decision) → Among (with_turn ds 1 ∷ []) es → AreApart (with_turn ds 2) es
-    first es (inl h) e a b = let x = Agrees-last e ds _ a in let y = Agrees-last e ds _ (subst (Agrees e) (sym h) b) in omega (arith, x, y)
+    first es (inl h) e a b = let x = Agrees-last e ds _ a in let y = Agrees-last e ds _ (subst (Agrees e) (sym h) b) in
+        omega (arith, x, y)
     first es (inr h) e a b = h
 sides_apart ds (Turned Second) = ((λ es h. absurd h), tt)
 sides_apart ds (Turned Third) = tt
 
-apart_append : (xs ys : List (List Decision)) → AllApart xs → AllApart ys → ((x y : List Decision) → Among xs x → Among ys y → AreApart x y) → AllApart (xs ++ ys)
+apart_append : (xs ys : List (List Decision)) → AllApart xs → AllApart ys
+    → ((x y : List Decision) → Among xs x → Among ys y → AreApart x y) → AllApart (xs ++ ys)
 apart_append [] ys h k cross = k
 apart_append (x ∷ xs) ys h k cross = (
   (λ es m. elim (among_either xs ys es m) [ inl a ↦ h.0 es a | inr a ↦ cross x es (inl refl) a ]),
   apart_append xs ys h.1 k (λ u w a b. cross u w (inr a) b),
 )
 
-apart_from : (ds : List Decision) (b : Branch) (bs : List Branch) → AllApart (decisions_behind (ds ++ decision_behind ds b ∷ []) bs ∷ sides_behind (ds ++ decision_behind ds b ∷ []) bs) → AllApart (decisions_behind ds (b ∷ bs) ∷ sides_behind ds (b ∷ bs))
-apart_from ds b bs later = (path, apart_append (sides_at ds b) (sides_behind (ds ++ decision_behind ds b ∷ []) bs) (sides_apart ds b) later.1 cross)
+apart_from : (ds : List Decision) (b : Branch) (bs : List Branch)
+    → AllApart (decisions_behind (ds ++ decision_behind ds b ∷ []) bs ∷ sides_behind (ds ++ decision_behind ds b ∷ []) bs)
+    → AllApart (decisions_behind ds (b ∷ bs) ∷ sides_behind ds (b ∷ bs))
+apart_from ds b bs later = (
+  path,
+  apart_append (sides_at ds b) (sides_behind (ds ++ decision_behind ds b ∷ []) bs)
+      (sides_apart ds b) later.1 cross,
+)
   where
-    path : (es : List Decision) → Among (sides_at ds b ++ sides_behind (ds ++ decision_behind ds b ∷ []) bs) es → AreApart (decisions_behind (ds ++ decision_behind ds b ∷ []) bs) es
+    path : (es : List Decision) → Among (sides_at ds b ++ sides_behind (ds ++ decision_behind ds b ∷ []) bs) es
+        → AreApart (decisions_behind (ds ++ decision_behind ds b ∷ []) bs) es
     path es h e x y = elim (among_either (sides_at ds b) (sides_behind (ds ++ decision_behind ds b ∷ []) bs) es h) [
       | inl k ↦ off_side e ds b (among_stands e (sides_at ds b) es k y) (front_behind e (ds ++ decision_behind ds b ∷ []) bs x)
       | inr k ↦ later.0 es k e x y
     ]
 
-    cross : (u w : List Decision) → Among (sides_at ds b) u → Among (sides_behind (ds ++ decision_behind ds b ∷ []) bs) w → AreApart u w
-    cross u w h k e x y = off_side e ds b (among_stands e (sides_at ds b) u h x) (side_behind e (ds ++ decision_behind ds b ∷ []) bs w k y)
+    cross : (u w : List Decision) → Among (sides_at ds b) u → Among (sides_behind (ds ++ decision_behind ds b ∷ []) bs) w
+        → AreApart u w
+    cross u w h k e x y = off_side e ds b (among_stands e (sides_at ds b) u h x)
+        (side_behind e (ds ++ decision_behind ds b ∷ []) bs w k y)
 
 -- nothing stands in two parts
 pub parts_apart : (ds : List Decision) (bs : List Branch) → AllApart (decisions_behind ds bs ∷ sides_behind ds bs)
 parts_apart ds [] = ((λ es h. absurd h), tt)
 parts_apart ds (b ∷ bs) = apart_from ds b bs (parts_apart (ds ++ decision_behind ds b ∷ []) bs)
 
-off_parts : (e : Evidence) (parts : List (List Decision)) (ds : List Decision) → ((es : List Decision) → Among parts es → AreApart ds es) → Agrees e ds → StandsAmong e parts → ⊥
+off_parts : (e : Evidence) (parts : List (List Decision)) (ds : List Decision)
+    → ((es : List Decision) → Among parts es → AreApart ds es) → Agrees e ds → StandsAmong e parts → ⊥
 unfolding StandsAmong
 off_parts e [] ds h a s = s
 off_parts e (p ∷ ps) ds h a (inl s) = h p (inl refl) e a s
 off_parts e (p ∷ ps) ds h a (inr s) = off_parts e ps ds (λ es m. h es (inr m)) a s
 
 -- after a path was turned over there stands what stood before, without what stood on it
-pub stands_over : (e : Evidence) (old new : List Branch) → IsTurnedOver old new → Stands e new ↔ (Stands e old × (Agrees e (decisions_of old) → ⊥))
+pub stands_over : (e : Evidence) (old new : List Branch) → IsTurnedOver old new
+    → Stands e new ↔ (Stands e old × (Agrees e (decisions_of old) → ⊥))
 unfolding Stands StandsAmong
-stands_over e old new o = ((λ h. ((h.0, inr (back h.1)), λ a. off_parts e (sides_of old) (decisions_of old) (parts_apart [] old).0 a (back h.1))), λ h. (h.0.0, on h.0.1 h.1))
+stands_over e old new o = (
+  (λ h. ((h.0, inr (back h.1)), λ a. off_parts e (sides_of old) (decisions_of old) (parts_apart [] old).0 a (back h.1))),
+  λ h.
+      (h.0.0, on h.0.1 h.1),
+)
   where
     back : Agrees e (decisions_of new) ⊎ StandsAmong e (sides_of new) → StandsAmong e (sides_of old)
     back (inl a) = subst (StandsAmong e) (sym (next_part old new o)) (stands_right e (sides_of new) _ (inl a))
     back (inr a) = subst (StandsAmong e) (sym (next_part old new o)) (stands_left e (sides_of new) _ a)
 
-    on : Agrees e (decisions_of old) ⊎ StandsAmong e (sides_of old) → (Agrees e (decisions_of old) → ⊥) → Agrees e (decisions_of new) ⊎ StandsAmong e (sides_of new)
+    on : Agrees e (decisions_of old) ⊎ StandsAmong e (sides_of old) → (Agrees e (decisions_of old) → ⊥)
+        → Agrees e (decisions_of new) ⊎ StandsAmong e (sides_of new)
     on (inl a) n = absurd (n a)
     on (inr a) n = elim (stands_either e (sides_of new) (decisions_of new ∷ []) (subst (StandsAmong e) (next_part old new o) a)) [
       | inl k ↦ inr k
@@ -216,33 +243,46 @@ take_index (x ∷ xs) zero k lt = absurd (omega arith)
 take_index (x ∷ xs) (suc t) zero lt = refl
 take_index (x ∷ xs) (suc t) (suc k) lt = take_index xs t k (omega arith)
 
-pub agrees_follows : (e : Evidence) (bs : List Branch) (path : List Literal) (taken : ℕ) → ∥ Narrowed path (branch_literals bs) ∥₁ → Agrees e (decisions_of bs) → Follows path (take taken (branch_turns bs)) e
+pub agrees_follows : (e : Evidence) (bs : List Branch) (path : List Literal) (taken : ℕ) → ∥ Narrowed path (branch_literals bs) ∥₁
+    → Agrees e (decisions_of bs) → Follows path (take taken (branch_turns bs)) e
 unfolding Follows
 agrees_follows e bs path taken n a = (
-  meets_wider e.values path (branch_literals bs) n (subst (Meets e.values) (literals_of_decisions bs) (agreed_meets e (decisions_of bs) a)),
-  λ k lt. let z : 0 + k ≡ k = omega arith in sym (subst (λ (i : ℕ). e.turns i ≡ slice_index (take taken (branch_turns bs)) k) z (kept_turn e (decisions_of bs) 0 k _ (numbered_behind [] bs tt) a (subst (λ (ns : List ℕ). slice_get ns k ≡ Some (slice_index (take taken (branch_turns bs)) k)) (sym (turns_of_decisions bs)) (take_index (branch_turns bs) taken k lt)))),
+  meets_wider e.values path (branch_literals bs) n
+      (subst (Meets e.values) (literals_of_decisions bs) (agreed_meets e (decisions_of bs) a)),
+  λ k lt. let z : 0 + k ≡ k = omega arith in sym
+      (subst (λ (i : ℕ). e.turns i ≡ slice_index (take taken (branch_turns bs)) k) z
+      (kept_turn e (decisions_of bs) 0 k _ (numbered_behind [] bs tt) a
+      (subst (λ (ns : List ℕ). slice_get ns k ≡ Some (slice_index (take taken (branch_turns bs)) k)) (sym (turns_of_decisions bs))
+      (take_index (branch_turns bs) taken k lt)))),
 )
 
 -- what is added behind decisions
 behind : (ds : List Decision) (bs : List Branch) → (ys : List Decision) × (decisions_behind ds bs ≡ ds ++ ys)
 behind ds [] = ([], sym (append-nil ds))
-behind ds (b ∷ bs) = let r = behind (ds ++ decision_behind ds b ∷ []) bs in (decision_behind ds b ∷ r.0, r.1 ∙ append_assoc ds (decision_behind ds b ∷ []) r.0)
+behind ds (b ∷ bs) = let r = behind (ds ++ decision_behind ds b ∷ []) bs in
+    (decision_behind ds b ∷ r.0, r.1 ∙ append_assoc ds (decision_behind ds b ∷ []) r.0)
 
-side_at : (ds : List Decision) (b : Branch) (ys all part : List Decision) → all ≡ ds ++ decision_behind ds b ∷ ys → Among (sides_at ds b) part → IsSideOf all part
+side_at : (ds : List Decision) (b : Branch) (ys all part : List Decision) → all ≡ ds ++ decision_behind ds b ∷ ys
+    → Among (sides_at ds b) part → IsSideOf all part
 side_at ds (Open l) ys all part e (inl h) = opposite_of ds ys l e (sym h)
 side_at ds (Open l) ys all part e (inr h) = absurd h
 side_at ds (Closed l) ys all part e h = absurd h
-side_at ds (Turned First) ys all part e (inl h) = later_than ds ys (length (turns_in ds)) 0 2 e (omega arith) (omega arith) (sym h)
-side_at ds (Turned First) ys all part e (inr (inl h)) = later_than ds ys (length (turns_in ds)) 0 1 e (omega arith) (omega arith) (sym h)
+side_at ds (Turned First) ys all part e (inl h) =
+    later_than ds ys (length (turns_in ds)) 0 2 e (omega arith) (omega arith) (sym h)
+side_at ds (Turned First) ys all part e (inr (inl h)) =
+    later_than ds ys (length (turns_in ds)) 0 1 e (omega arith) (omega arith) (sym h)
 side_at ds (Turned First) ys all part e (inr (inr h)) = absurd h
-side_at ds (Turned Second) ys all part e (inl h) = later_than ds ys (length (turns_in ds)) 1 2 e (omega arith) (omega arith) (sym h)
+side_at ds (Turned Second) ys all part e (inl h) =
+    later_than ds ys (length (turns_in ds)) 1 2 e (omega arith) (omega arith) (sym h)
 side_at ds (Turned Second) ys all part e (inr h) = absurd h
 side_at ds (Turned Third) ys all part e h = absurd h
 
 -- each open side leaves the decisions at one of them
-pub side_of : (ds : List Decision) (bs : List Branch) (part : List Decision) → Among (sides_behind ds bs) part → IsSideOf (decisions_behind ds bs) part
+pub side_of : (ds : List Decision) (bs : List Branch) (part : List Decision) → Among (sides_behind ds bs) part
+    → IsSideOf (decisions_behind ds bs) part
 side_of ds [] part h = absurd h
 side_of ds (b ∷ bs) part h = elim (among_either (sides_at ds b) (sides_behind (ds ++ decision_behind ds b ∷ []) bs) part h) [
-  | inl k ↦ (let q = behind (ds ++ decision_behind ds b ∷ []) bs in side_at ds b q.0 _ part (q.1 ∙ append_assoc ds (decision_behind ds b ∷ []) q.0) k)
+  | inl k ↦ (let q = behind (ds ++ decision_behind ds b ∷ []) bs in
+      side_at ds b q.0 _ part (q.1 ∙ append_assoc ds (decision_behind ds b ∷ []) q.0) k)
   | inr k ↦ side_of (ds ++ decision_behind ds b ∷ []) bs part k
 ]

@@ -43,14 +43,18 @@ turns_below (Turned t ∷ bs) zero = turn_below t
 turns_below (Turned t ∷ bs) (suc k) = turns_below bs k
 
 -- numbers that meet the literals of numbered decisions agree with them, with the turns that stand there
-agrees_from : (v : Values) (ts : List ℕ) (k : ℕ) (ds : List Decision) → AreNumbered k ds → Meets v (literals_in ds) → ((j : ℕ) → j < length (turns_in ds) → slice_index ts (k + j) ≡ slice_index (turns_in ds) j) → Agrees (evidence_of v ts) ds
+agrees_from : (v : Values) (ts : List ℕ) (k : ℕ) (ds : List Decision) → AreNumbered k ds → Meets v (literals_in ds)
+    → ((j : ℕ) → j < length (turns_in ds) → slice_index ts (k + j) ≡ slice_index (turns_in ds) j) → Agrees (evidence_of v ts) ds
 unfolding Agrees
 agrees_from v ts k [] a m t = tt
 agrees_from v ts k (fact l ∷ ds) a m t = (m.0, agrees_from v ts k ds a m.1 t)
 agrees_from v ts k (turn_is i n ∷ ds) a m t =
     let z : k + 0 ≡ k = omega arith in
-    let here : slice_index ts k ≡ n = subst (λ (q : ℕ). slice_index ts q ≡ n) z (t 0 (omega arith)) in
-    (subst (λ (q : ℕ). slice_index ts q ≡ n) (sym a.0) here, agrees_from v ts (suc k) ds a.1 m (λ j lt. let s : k + suc j ≡ suc k + j = omega arith in subst (λ (q : ℕ). slice_index ts q ≡ slice_index (turns_in ds) j) s (t (suc j) (omega (arith, lt)))))
+    let here : slice_index ts k ≡ n = subst (λ (q : ℕ). slice_index ts q ≡ n) z (t 0 (omega arith)) in (
+      subst (λ (q : ℕ). slice_index ts q ≡ n) (sym a.0) here,
+      agrees_from v ts (suc k) ds a.1 m (λ j lt. let s : k + suc j ≡ suc k + j = omega arith in
+          subst (λ (q : ℕ). slice_index ts q ≡ slice_index (turns_in ds) j) s (t (suc j) (omega (arith, lt)))),
+    )
 
 pub agreed_meets : (e : Evidence) (ds : List Decision) → Agrees e ds → Meets e.values (literals_in ds)
 unfolding Agrees
@@ -68,20 +72,26 @@ stands_where_met ds a b met = ∥∥₁_map met (λ s. record {
 })
 
 pub met_where_stands : (ds : List Decision) → CanStand ds → CanBeMet (literals_in ds)
-met_where_stands ds h = ∥∥₁_map h (λ s. record { values = s.values; meets = agreed_meets (evidence_of s.values s.turns) ds s.agrees })
+met_where_stands ds h =
+    ∥∥₁_map h (λ s. record { values = s.values; meets = agreed_meets (evidence_of s.values s.turns) ds s.agrees })
 
 -- the literals of a path can be met where something stands on it
-pub met_of_possible : (bs : List Branch) → ((part : List Decision) → Among (parts_of bs) part → CanStand part) → CanBeMet (branch_literals bs)
-met_of_possible bs h = subst CanBeMet (literals_of_decisions bs) (met_where_stands (decisions_of bs) (h (decisions_of bs) (inl refl)))
+pub met_of_possible : (bs : List Branch) → ((part : List Decision) → Among (parts_of bs) part → CanStand part)
+    → CanBeMet (branch_literals bs)
+met_of_possible bs h = subst CanBeMet (literals_of_decisions bs)
+    (met_where_stands (decisions_of bs) (h (decisions_of bs) (inl refl)))
 
 pub met_front : (xs ys : List Literal) → CanBeMet (xs ++ ys) → CanBeMet xs
 met_front xs ys h = ∥∥₁_map h (λ s. record { values = s.values; meets = Meets-left s.values xs ys s.meets })
 
-fact_stands : (bs : List Branch) (l : Literal) → CanBeMet (branch_literals bs ++ l ∷ []) → CanStand (decisions_of bs ++ fact l ∷ [])
+fact_stands : (bs : List Branch) (l : Literal) → CanBeMet (branch_literals bs ++ l ∷ [])
+    → CanStand (decisions_of bs ++ fact l ∷ [])
 fact_stands bs l met = stands_where_met (decisions_of bs ++ fact l ∷ [])
     (AreNumbered-fact 0 (decisions_of bs) l (numbered_behind [] bs tt))
-    (subst AllBelow (sym (turns_in-append (decisions_of bs) (fact l ∷ []) ∙ append-nil (turns_in (decisions_of bs)) ∙ turns_of_decisions bs)) (turns_below bs))
-    (subst CanBeMet (ap (λ ls. ls ++ l ∷ []) (sym (literals_of_decisions bs)) ∙ sym (literals_in-append (decisions_of bs) (fact l ∷ []))) met)
+    (subst AllBelow (sym (turns_in-append (decisions_of bs) (fact l ∷ []) ∙ append-nil (turns_in (decisions_of bs))
+    ∙ turns_of_decisions bs)) (turns_below bs))
+    (subst CanBeMet (ap (λ ls. ls ++ l ∷ []) (sym (literals_of_decisions bs))
+    ∙ sym (literals_in-append (decisions_of bs) (fact l ∷ []))) met)
 
 turn_stands : (bs : List Branch) (n : ℕ) → n < 3 → CanBeMet (branch_literals bs) → CanStand (with_turn (decisions_of bs) n)
 turn_stands bs n lt met =
@@ -89,27 +99,38 @@ turn_stands bs n lt met =
     let d : Decision = turn_is (length (turns_in ds)) n in
     stands_where_met (ds ++ d ∷ [])
     (AreNumbered-turn 0 ds (length (turns_in ds)) n (omega arith) (numbered_behind [] bs tt))
-    (subst AllBelow (sym (turns_in-append ds (d ∷ []) ∙ ap (λ ns. ns ++ n ∷ []) (turns_of_decisions bs))) (below_more (branch_turns bs) n (turns_below bs) lt))
+    (subst AllBelow (sym (turns_in-append ds (d ∷ []) ∙ ap (λ ns. ns ++ n ∷ []) (turns_of_decisions bs)))
+    (below_more (branch_turns bs) n (turns_below bs) lt))
     (subst CanBeMet (sym (literals_in-append ds (d ∷ []) ∙ append-nil (literals_in ds) ∙ literals_of_decisions bs)) met)
 
 -- something stands in each part after one more branch, where it does in the new parts
-possible_more : (bs : List Branch) (b : Branch) → ((part : List Decision) → Among (parts_of bs) part → CanStand part) → CanStand (decisions_of bs ++ decision_behind (decisions_of bs) b ∷ []) → ((part : List Decision) → Among (sides_at (decisions_of bs) b) part → CanStand part)
+possible_more : (bs : List Branch) (b : Branch) → ((part : List Decision) → Among (parts_of bs) part → CanStand part)
+    → CanStand (decisions_of bs ++ decision_behind (decisions_of bs) b ∷ [])
+    → ((part : List Decision) → Among (sides_at (decisions_of bs) b) part → CanStand part)
     → (part : List Decision) → Among (parts_of (bs ++ b ∷ [])) part → CanStand part
 possible_more bs b old path sides part (inl e) = subst CanStand (sym (decisions_more bs b) ∙ e) path
-possible_more bs b old path sides part (inr h) = elim (among_either (sides_of bs) (sides_at (decisions_of bs) b) part (subst (λ (ps : List (List Decision)). Among ps part) (sides_more bs b) h)) [
-  | inl k ↦ old part (inr k)
-  | inr k ↦ sides part k
-]
+possible_more bs b old path sides part (inr h) =
+    elim (among_either (sides_of bs) (sides_at (decisions_of bs) b) part
+    (subst (λ (ps : List (List Decision)). Among ps part) (sides_more bs b) h)) [
+      | inl k ↦ old part (inr k)
+      | inr k ↦ sides part k
+    ]
 
-pub possible_open : (bs new : List Branch) (l : Literal) → new ≡ bs ++ Open l ∷ [] → ((part : List Decision) → Among (parts_of bs) part → CanStand part) → IsOpen (branch_literals bs) l → (part : List Decision) → Among (parts_of new) part → CanStand part
-possible_open bs new l is old both part h = possible_more bs (Open l) old (fact_stands bs l both.0) side part (subst (λ (cs : List Branch). Among (parts_of cs) part) is h)
+pub possible_open : (bs new : List Branch) (l : Literal) → new ≡ bs ++ Open l ∷ []
+    → ((part : List Decision) → Among (parts_of bs) part → CanStand part) → IsOpen (branch_literals bs) l → (part : List Decision)
+    → Among (parts_of new) part → CanStand part
+possible_open bs new l is old both part h = possible_more bs (Open l) old (fact_stands bs l both.0) side part
+    (subst (λ (cs : List Branch). Among (parts_of cs) part) is h)
   where
     side : (part : List Decision) → Among (sides_at (decisions_of bs) (Open l)) part → CanStand part
     side part (inl e) = subst CanStand e (fact_stands bs (opposite l) both.1)
     side part (inr k) = absurd k
 
-pub possible_turn : (bs new : List Branch) → new ≡ bs ++ Turned First ∷ [] → ((part : List Decision) → Among (parts_of bs) part → CanStand part) → (part : List Decision) → Among (parts_of new) part → CanStand part
-possible_turn bs new is old part h = possible_more bs (Turned First) old (turn_stands bs 0 (omega arith) met) side part (subst (λ (cs : List Branch). Among (parts_of cs) part) is h)
+pub possible_turn : (bs new : List Branch) → new ≡ bs ++ Turned First ∷ []
+    → ((part : List Decision) → Among (parts_of bs) part → CanStand part) → (part : List Decision) → Among (parts_of new) part
+    → CanStand part
+possible_turn bs new is old part h = possible_more bs (Turned First) old (turn_stands bs 0 (omega arith) met) side part
+    (subst (λ (cs : List Branch). Among (parts_of cs) part) is h)
   where
     met : CanBeMet (branch_literals bs)
     met = met_of_possible bs old
@@ -120,12 +141,18 @@ possible_turn bs new is old part h = possible_more bs (Turned First) old (turn_s
     side part (inr (inr k)) = absurd k
 
 -- the parts after a path was turned over were parts before
-pub possible_over : (old new : List Branch) → IsTurnedOver old new → ((part : List Decision) → Among (parts_of old) part → CanStand part) → (part : List Decision) → Among (parts_of new) part → CanStand part
-possible_over old new o h part (inl e) = h part (inr (subst (λ (ps : List (List Decision)). Among ps part) (sym (next_part old new o)) (among_right (sides_of new) _ part (inl e))))
-possible_over old new o h part (inr k) = h part (inr (subst (λ (ps : List (List Decision)). Among ps part) (sym (next_part old new o)) (among_left (sides_of new) _ part k)))
+pub possible_over : (old new : List Branch) → IsTurnedOver old new
+    → ((part : List Decision) → Among (parts_of old) part → CanStand part) → (part : List Decision) → Among (parts_of new) part
+    → CanStand part
+possible_over old new o h part (inl e) = h part
+    (inr (subst (λ (ps : List (List Decision)). Among ps part) (sym (next_part old new o))
+    (among_right (sides_of new) _ part (inl e))))
+possible_over old new o h part (inr k) = h part
+    (inr (subst (λ (ps : List (List Decision)). Among ps part) (sym (next_part old new o)) (among_left (sides_of new) _ part k)))
 
 -- the member at a place of a list with one more
-get_more : {A : Type 0} (xs : List A) (x : A) (k : ℕ) (y : A) → slice_get (xs ++ x ∷ []) k ≡ Some y → (slice_get xs k ≡ Some y) ⊎ ((k ≡ length xs) × (x ≡ y))
+get_more : {A : Type 0} (xs : List A) (x : A) (k : ℕ) (y : A) → slice_get (xs ++ x ∷ []) k ≡ Some y
+    → (slice_get xs k ≡ Some y) ⊎ ((k ≡ length xs) × (x ≡ y))
 get_more [] x zero y h = inr (refl, cc h)
 get_more [] x (suc k) y h = cc h
 get_more (z ∷ xs) x zero y h = inl h
@@ -142,18 +169,25 @@ get_front (z ∷ xs) ys zero x h = h
 get_front (z ∷ xs) ys (suc k) x h = get_front xs ys k x h
 
 -- undecided literals, with one more, and the first of them
-pub undecided_more : (ls new : List Literal) (l : Literal) → new ≡ ls ++ l ∷ [] → AreUndecided ls → CanBeMet (ls ++ opposite l ∷ []) → AreUndecided new
-undecided_more ls new l is old met k m h = elim (get_more ls l k m (subst (λ (zs : List Literal). slice_get zs k ≡ Some m) is h)) [
-  | inl g ↦ subst (λ (zs : List Literal). CanBeMet (zs ++ opposite m ∷ [])) (sym (ap (λ zs. take k zs) is ∙ take_front ls (l ∷ []) k m g)) (old k m g)
-  | inr g ↦ subst (λ (zs : List Literal). CanBeMet (zs ++ opposite m ∷ [])) (sym (ap (λ zs. take k zs) is ∙ subst (λ (i : ℕ). take i (ls ++ l ∷ []) ≡ ls) (sym g.0) (take-append_seam ls (l ∷ [])))) (subst (λ (q : Literal). CanBeMet (ls ++ opposite q ∷ [])) g.1 met)
-]
+pub undecided_more : (ls new : List Literal) (l : Literal) → new ≡ ls ++ l ∷ [] → AreUndecided ls
+    → CanBeMet (ls ++ opposite l ∷ []) → AreUndecided new
+undecided_more ls new l is old met k m h = elim
+    (get_more ls l k m (subst (λ (zs : List Literal). slice_get zs k ≡ Some m) is h)) [
+      | inl g ↦ subst (λ (zs : List Literal). CanBeMet (zs ++ opposite m ∷ []))
+          (sym (ap (λ zs. take k zs) is ∙ take_front ls (l ∷ []) k m g)) (old k m g)
+      | inr g ↦ subst (λ (zs : List Literal). CanBeMet (zs ++ opposite m ∷ []))
+          (sym (ap (λ zs. take k zs) is ∙ subst (λ (i : ℕ). take i (ls ++ l ∷ []) ≡ ls) (sym g.0) (take-append_seam ls (l ∷ []))))
+          (subst (λ (q : Literal). CanBeMet (ls ++ opposite q ∷ [])) g.1 met)
+    ]
 
 pub undecided_front : (xs ys : List Literal) → AreUndecided (xs ++ ys) → AreUndecided xs
-undecided_front xs ys h k l g = subst (λ (zs : List Literal). CanBeMet (zs ++ opposite l ∷ [])) (take_front xs ys k l g) (h k l (get_front xs ys k l g))
+undecided_front xs ys h k l g = subst (λ (zs : List Literal). CanBeMet (zs ++ opposite l ∷ [])) (take_front xs ys k l g)
+    (h k l (get_front xs ys k l g))
 
 -- the opposite of the opposite is the literal
 pub opposite_twice : (l : Literal) → opposite (opposite l) ≡ l
-opposite_twice (AtMost x y c) = let e : pos 0 -ℤ (pos 0 -ℤ c -ℤ pos 1) -ℤ pos 1 ≡ c = omega (arith, ints) in ap (λ z. AtMost x y z) e
+opposite_twice (AtMost x y c) = let e : pos 0 -ℤ (pos 0 -ℤ c -ℤ pos 1) -ℤ pos 1 ≡ c = omega (arith, ints) in
+    ap (λ z. AtMost x y z) e
 opposite_twice (Same x y) = refl
 opposite_twice (Differ x y) = refl
 
@@ -164,8 +198,10 @@ bound_within (l ∷ ls) = omega (arith, bound_within ls)
 pub bound_asked : (ls : List Literal) (l : Literal) (n : ℕ) → span_of ls ≤ n → IsBounded n l → bound_of_all (ls ++ l ∷ []) ≤ n
 bound_asked ls l n h k = omega (arith, bound_of_all-append ls (l ∷ []), bound_of_bounded n l k, bound_within ls)
 
-pub span_more : (ls new : List Literal) (l : Literal) (n : ℕ) → new ≡ ls ++ l ∷ [] → span_of ls ≤ n → IsBounded n l → IsBounded n (opposite l) → span_of new ≤ n
-span_more ls new l n is h k o = rw is (omega (arith, span_of-append ls (l ∷ []), bound_of_bounded n l k, bound_of_bounded n (opposite l) o))
+pub span_more : (ls new : List Literal) (l : Literal) (n : ℕ) → new ≡ ls ++ l ∷ [] → span_of ls ≤ n → IsBounded n l
+    → IsBounded n (opposite l) → span_of new ≤ n
+span_more ls new l n is h k o =
+    rw is (omega (arith, span_of-append ls (l ∷ []), bound_of_bounded n l k, bound_of_bounded n (opposite l) o))
 
 -- nothing is decided
 pub possible_none : (bs : List Branch) → bs ≡ [] → (part : List Decision) → Among (parts_of bs) part → CanStand part
@@ -181,10 +217,14 @@ undecided_none ls is k l h = absurd (none k (subst (λ (zs : List Literal). slic
     none k h = cc h
 
 -- the branches after a push that may have failed
-pub possible_either : (b : Bool) (bs new : List Branch) → new ≡ cond b (bs ++ Turned First ∷ []) bs → ((part : List Decision) → Among (parts_of bs) part → CanStand part) → (part : List Decision) → Among (parts_of new) part → CanStand part
+pub possible_either : (b : Bool) (bs new : List Branch) → new ≡ cond b (bs ++ Turned First ∷ []) bs
+    → ((part : List Decision) → Among (parts_of bs) part → CanStand part) → (part : List Decision) → Among (parts_of new) part
+    → CanStand part
 possible_either true bs new is old part h = possible_turn bs new is old part h
 possible_either false bs new is old part h = old part (subst (λ (cs : List Branch). Among (parts_of cs) part) is h)
 
-pub literals_either : (b : Bool) (bs new : List Branch) → new ≡ cond b (bs ++ Turned First ∷ []) bs → branch_literals new ≡ branch_literals bs
-literals_either true bs new is = ap branch_literals is ∙ branch_literals-append bs (Turned First ∷ []) ∙ append-nil (branch_literals bs)
+pub literals_either : (b : Bool) (bs new : List Branch) → new ≡ cond b (bs ++ Turned First ∷ []) bs → branch_literals new
+    ≡ branch_literals bs
+literals_either true bs new is = ap branch_literals is ∙ branch_literals-append bs (Turned First ∷ [])
+    ∙ append-nil (branch_literals bs)
 literals_either false bs new is = ap branch_literals is

@@ -37,28 +37,39 @@ answered_at_most : (x y : Symbol) (c : ℤ) (told : Bool) → IsAtMost (answered
 answered_at_most x y c true = tt
 answered_at_most x y c false = tt
 
-pub differences_more : (old new : List Literal) (x y : Symbol) (c : ℤ) (told : Bool) → new ≡ old ++ answered (AtMost x y c) told ∷ [] → AllAtMost old → AllAtMost new
-differences_more old new x y c told e h = subst AllAtMost (sym e) (more old (answered (AtMost x y c) told) h (answered_at_most x y c told))
+pub differences_more : (old new : List Literal) (x y : Symbol) (c : ℤ) (told : Bool) → new ≡ old ++ answered (AtMost x y c) told
+    ∷ [] → AllAtMost old → AllAtMost new
+differences_more old new x y c told e h = subst AllAtMost (sym e)
+    (more old (answered (AtMost x y c) told) h (answered_at_most x y c told))
 
-pub differences_decided : (path : List Literal) (old new : List Decision) (x y : Symbol) (c : ℤ) (told : Bool) → Decides path old new (answered (AtMost x y c) told) → AllAtMost (literals_in old) → AllAtMost (literals_in new)
-differences_decided path old new x y c told (added one other e) h = subst AllAtMost (sym (ap literals_in e ∙ literals_in-append old (fact (answered (AtMost x y c) told) ∷ []))) (more (literals_in old) (answered (AtMost x y c) told) h (answered_at_most x y c told))
+pub differences_decided : (path : List Literal) (old new : List Decision) (x y : Symbol) (c : ℤ) (told : Bool)
+    → Decides path old new (answered (AtMost x y c) told) → AllAtMost (literals_in old) → AllAtMost (literals_in new)
+differences_decided path old new x y c told (added one other e) h =
+    subst AllAtMost (sym (ap literals_in e ∙ literals_in-append old (fact (answered (AtMost x y c) told) ∷ [])))
+    (more (literals_in old) (answered (AtMost x y c) told) h (answered_at_most x y c told))
 differences_decided path old new x y c told (entailed e follows) h = subst AllAtMost (sym (ap literals_in e)) h
 
-pub differences_turned : (turns : List ℕ) (old new : List Decision) (n : ℕ) → DecidesTurn turns old new n → AllAtMost (literals_in old) → AllAtMost (literals_in new)
-differences_turned turns old new n (turned_to all e) h = subst AllAtMost (sym (ap literals_in e ∙ literals_in-append old _)) (none (literals_in old) h)
+pub differences_turned : (turns : List ℕ) (old new : List Decision) (n : ℕ) → DecidesTurn turns old new n
+    → AllAtMost (literals_in old) → AllAtMost (literals_in new)
+differences_turned turns old new n (turned_to all e) h =
+    subst AllAtMost (sym (ap literals_in e ∙ literals_in-append old _)) (none (literals_in old) h)
   where
     none : (ls : List Literal) → AllAtMost ls → AllAtMost (ls ++ [])
     none [] m = tt
     none (l ∷ ls) m = (m.0, none ls m.1)
 differences_turned turns old new n (kept there e) h = subst AllAtMost (sym (ap literals_in e)) h
 
-turned : (last other : Branch) → turned_over last ≡ Some other → AllAtMost (branch_literals (last ∷ [])) → AllAtMost (branch_literals (other ∷ []))
-turned (Open (AtMost x y c)) other e h = let s : Closed (opposite (AtMost x y c)) ≡ other = cc e in subst (λ (b : Branch). AllAtMost (branch_literals (b ∷ []))) s (tt, tt)
+turned : (last other : Branch) → turned_over last ≡ Some other → AllAtMost (branch_literals (last ∷ []))
+    → AllAtMost (branch_literals (other ∷ []))
+turned (Open (AtMost x y c)) other e h = let s : Closed (opposite (AtMost x y c)) ≡ other = cc e in
+    subst (λ (b : Branch). AllAtMost (branch_literals (b ∷ []))) s (tt, tt)
 turned (Open (Same x y)) other e h = absurd h.0
 turned (Open (Differ x y)) other e h = absurd h.0
 turned (Closed l) other e h = cc e
-turned (Turned First) other e h = let s : Turned Second ≡ other = cc e in subst (λ (b : Branch). AllAtMost (branch_literals (b ∷ []))) s tt
-turned (Turned Second) other e h = let s : Turned Third ≡ other = cc e in subst (λ (b : Branch). AllAtMost (branch_literals (b ∷ []))) s tt
+turned (Turned First) other e h = let s : Turned Second ≡ other = cc e in
+    subst (λ (b : Branch). AllAtMost (branch_literals (b ∷ []))) s tt
+turned (Turned Second) other e h = let s : Turned Third ≡ other = cc e in
+    subst (λ (b : Branch). AllAtMost (branch_literals (b ∷ []))) s tt
 turned (Turned Third) other e h = cc e
 
 right : (xs ys : List Literal) → AllAtMost (xs ++ ys) → AllAtMost ys
@@ -69,11 +80,17 @@ both : (xs ys : List Literal) → AllAtMost xs → AllAtMost ys → AllAtMost (x
 both [] ys h k = k
 both (x ∷ xs) ys h k = (h.0, both xs ys h.1 k)
 
-pub differences_over : (old new : List Branch) → IsTurnedOver old new → AllAtMost (literals_in (decisions_of old)) → AllAtMost (literals_in (decisions_of new))
+pub differences_over : (old new : List Branch) → IsTurnedOver old new → AllAtMost (literals_in (decisions_of old))
+    → AllAtMost (literals_in (decisions_of new))
 differences_over old new o h =
-    let were : AllAtMost (branch_literals o.kept ++ branch_literals (o.last ∷ o.gone)) = subst AllAtMost (literals_of_decisions old ∙ ap branch_literals o.were ∙ branch_literals-append o.kept (o.last ∷ o.gone)) h in
-    let last : AllAtMost (branch_literals (o.last ∷ [])) = front (branch_literals (o.last ∷ [])) (branch_literals o.gone) (subst AllAtMost (branch_literals-append (o.last ∷ []) o.gone) (right (branch_literals o.kept) _ were)) in
-    subst AllAtMost (sym (literals_of_decisions new ∙ ap branch_literals o.are ∙ branch_literals-append o.kept (o.other ∷ []))) (both (branch_literals o.kept) _ (front (branch_literals o.kept) _ were) (turned o.last o.other o.over last))
+    let were : AllAtMost (branch_literals o.kept ++ branch_literals (o.last ∷ o.gone)) =
+    subst AllAtMost (literals_of_decisions old ∙ ap branch_literals o.were ∙ branch_literals-append o.kept (o.last ∷ o.gone))
+    h in
+    let last : AllAtMost (branch_literals (o.last ∷ [])) =
+    front (branch_literals (o.last ∷ [])) (branch_literals o.gone)
+    (subst AllAtMost (branch_literals-append (o.last ∷ []) o.gone) (right (branch_literals o.kept) _ were)) in
+    subst AllAtMost (sym (literals_of_decisions new ∙ ap branch_literals o.are ∙ branch_literals-append o.kept (o.other ∷ [])))
+    (both (branch_literals o.kept) _ (front (branch_literals o.kept) _ were) (turned o.last o.other o.over last))
 
 -- the first question may be any
 pub first_may_ask : (path : List Literal) (x y : Symbol) (c : ℤ) → path ≡ [] → MayAsk path (AtMost x y c)

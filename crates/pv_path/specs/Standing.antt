@@ -41,8 +41,10 @@ Stands e bs = HasTurns e × StandsAmong e (parts_of bs)
 
 -- the second list of decisions is the first up to one, and there the other answer, or a later turn
 pub data IsSideOf (ds part : List Decision) : Type 0 where
-  opposite_of : (xs ys : List Decision) (l : Literal) → ds ≡ xs ++ fact l ∷ ys → part ≡ xs ++ fact (opposite l) ∷ [] → IsSideOf ds part
-  later_than : (xs ys : List Decision) (k m n : ℕ) → ds ≡ xs ++ turn_is k m ∷ ys → m < n → n < 3 → part ≡ xs ++ turn_is k n ∷ [] → IsSideOf ds part
+  opposite_of : (xs ys : List Decision) (l : Literal) → ds ≡ xs ++ fact l ∷ ys → part ≡ xs ++ fact (opposite l) ∷ []
+      → IsSideOf ds part
+  later_than : (xs ys : List Decision) (k m n : ℕ) → ds ≡ xs ++ turn_is k m ∷ ys → m < n → n < 3 → part ≡ xs ++ turn_is k n ∷ []
+      → IsSideOf ds part
 
 -- nothing stands in both
 abbrev pub AreApart : List Decision → List Decision → Type 0
@@ -70,8 +72,10 @@ IsSettled path literal Undecided = IsOpen path literal
 -- that is left can be met together with those before it
 pub data Narrowed : List Literal → List Literal → Type 0 where
   nothing : Narrowed [] []
-  decided : (path ls : List Literal) (l : Literal) → Narrowed path ls → CanBeMet (ls ++ opposite l ∷ []) → Narrowed (path ++ l ∷ []) (ls ++ l ∷ [])
-  entailed : (path ls : List Literal) (l : Literal) → Narrowed path ls → ((v : Values) → Meets v ls → Holds v l) → Narrowed (path ++ l ∷ []) ls
+  decided : (path ls : List Literal) (l : Literal) → Narrowed path ls → CanBeMet (ls ++ opposite l ∷ [])
+      → Narrowed (path ++ l ∷ []) (ls ++ l ∷ [])
+  entailed : (path ls : List Literal) (l : Literal) → Narrowed path ls → ((v : Values) → Meets v ls → Holds v l)
+      → Narrowed (path ++ l ∷ []) ls
 
 -- how far the bounds of the literals and of their opposites are from zero
 abbrev pub span_of : List Literal → ℕ

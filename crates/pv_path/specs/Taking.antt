@@ -16,9 +16,13 @@ turns_in-append (turn_is k n ∷ ds) es = ap (λ ns. n ∷ ns) (turns_in-append 
 -- the turns of the decisions are those of the branches
 pub turns_behind : (ds : List Decision) (bs : List Branch) → turns_in (decisions_behind ds bs) ≡ turns_in ds ++ branch_turns bs
 turns_behind ds [] = sym (append-nil (turns_in ds))
-turns_behind ds (Open l ∷ bs) = turns_behind (ds ++ fact l ∷ []) bs ∙ ap (λ ns. ns ++ branch_turns bs) (turns_in-append ds (fact l ∷ []) ∙ append-nil (turns_in ds))
-turns_behind ds (Closed l ∷ bs) = turns_behind (ds ++ fact l ∷ []) bs ∙ ap (λ ns. ns ++ branch_turns bs) (turns_in-append ds (fact l ∷ []) ∙ append-nil (turns_in ds))
-turns_behind ds (Turned t ∷ bs) = turns_behind (ds ++ decision_behind ds (Turned t) ∷ []) bs ∙ ap (λ ns. ns ++ branch_turns bs) (turns_in-append ds (decision_behind ds (Turned t) ∷ [])) ∙ append_assoc (turns_in ds) (turn_number t ∷ []) (branch_turns bs)
+turns_behind ds (Open l ∷ bs) = turns_behind (ds ++ fact l ∷ []) bs
+    ∙ ap (λ ns. ns ++ branch_turns bs) (turns_in-append ds (fact l ∷ []) ∙ append-nil (turns_in ds))
+turns_behind ds (Closed l ∷ bs) = turns_behind (ds ++ fact l ∷ []) bs
+    ∙ ap (λ ns. ns ++ branch_turns bs) (turns_in-append ds (fact l ∷ []) ∙ append-nil (turns_in ds))
+turns_behind ds (Turned t ∷ bs) = turns_behind (ds ++ decision_behind ds (Turned t) ∷ []) bs
+    ∙ ap (λ ns. ns ++ branch_turns bs) (turns_in-append ds (decision_behind ds (Turned t) ∷ []))
+    ∙ append_assoc (turns_in ds) (turn_number t ∷ []) (branch_turns bs)
 
 pub turns_of_decisions : (bs : List Branch) → turns_in (decisions_of bs) ≡ branch_turns bs
 turns_of_decisions bs = turns_behind [] bs
@@ -29,7 +33,8 @@ AreNumbered-fact k [] l h = tt
 AreNumbered-fact k (fact m ∷ ds) l h = AreNumbered-fact k ds l h
 AreNumbered-fact k (turn_is j n ∷ ds) l h = (h.0, AreNumbered-fact (suc k) ds l h.1)
 
-pub AreNumbered-turn : (k : ℕ) (ds : List Decision) (j n : ℕ) → j ≡ k + length (turns_in ds) → AreNumbered k ds → AreNumbered k (ds ++ turn_is j n ∷ [])
+pub AreNumbered-turn : (k : ℕ) (ds : List Decision) (j n : ℕ) → j ≡ k + length (turns_in ds) → AreNumbered k ds
+    → AreNumbered k (ds ++ turn_is j n ∷ [])
 AreNumbered-turn k [] j n e h = (omega (arith, e), tt)
 AreNumbered-turn k (fact m ∷ ds) j n e h = AreNumbered-turn k ds j n e h
 AreNumbered-turn k (turn_is i m ∷ ds) j n e h = (h.0, AreNumbered-turn (suc k) ds j n (omega (arith, e)) h.1)
@@ -38,7 +43,8 @@ pub numbered_behind : (ds : List Decision) (bs : List Branch) → AreNumbered 0 
 numbered_behind ds [] h = h
 numbered_behind ds (Open l ∷ bs) h = numbered_behind _ bs (AreNumbered-fact 0 ds l h)
 numbered_behind ds (Closed l ∷ bs) h = numbered_behind _ bs (AreNumbered-fact 0 ds l h)
-numbered_behind ds (Turned t ∷ bs) h = numbered_behind _ bs (AreNumbered-turn 0 ds (length (turns_in ds)) (turn_number t) (omega arith) h)
+numbered_behind ds (Turned t ∷ bs) h = numbered_behind _ bs
+    (AreNumbered-turn 0 ds (length (turns_in ds)) (turn_number t) (omega arith) h)
 
 -- so the first of the turns of the branches are taken
 pub takes_first : (bs : List Branch) (taken : ℕ) → AreTaken (take taken (branch_turns bs)) (decisions_of bs)

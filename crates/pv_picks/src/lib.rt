@@ -2,14 +2,16 @@
 //! of a program, and the data of verdicts on them.
 #![tactic(auto)]
 
-pub mod laws;
+mod check;
+mod evidence;
 mod listing;
 #[cfg(test)]
 mod tests;
+mod unit;
 mod verdict;
 
+pub use check::Check;
+pub use evidence::{Entry, Evidence, Pick, Picks, StepMap, StepPair, Table};
 pub use listing::units;
-pub use pv_meaning::{
-    Check, Entry, Evidence, Part, Pick, Picks, PvUnit, StepMap, StepPair, Table, Units,
-};
+pub use unit::{Part, PvUnit, Units};
 pub use verdict::{Verdict, Verdicts};

@@ -1,5 +1,5 @@
 ghost use Rattle.std.specs.Prelude.{◌≡◌, ◌++◌, IfOk, OnOk};
-ghost use Rattle.pv_picks.specs.Units.{
+ghost use Rattle.pv_picks.specs.Verdicts.Units.{
   units_of,
   units_of_class,
   units_of_invariant,
@@ -7,9 +7,9 @@ ghost use Rattle.pv_picks.specs.Units.{
   units_of_members,
 };
 
+use crate::{Part, PvUnit, Units};
 use pv_ast::{Class, Expr, Member, Program};
 use pv_base::NoMemory;
-use pv_meaning::{Part, PvUnit, Units};
 use sqlite_items::Items;
 use std::alloc::Global;
 

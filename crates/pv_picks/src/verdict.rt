@@ -1,5 +1,5 @@
+use crate::{Check, Entry, Evidence};
 use pv_base::Span;
-use pv_meaning::{Check, Entry, Evidence};
 use sqlite_items::Items;
 
 /// What is told of a unit.

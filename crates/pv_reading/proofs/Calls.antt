@@ -19,7 +19,8 @@ use Rattle.pv_reading.proofs.Loops.{exact_keeps}
 use Rattle.pv_reading.proofs.Whole
 use Rattle.pv_reading.proofs.Whole.{plain_length}
 
-module _ {A : Type 0} {limit : ℕ} {first stop : Nexts} {R : Rule A} {p : Parser A} (P : Exact limit first stop R p) (ends : stop None ≡ true) (end : ℕ) where
+module _ {A : Type 0} {limit : ℕ} {first stop : Nexts} {R : Rule A} {p : Parser A} (P : Exact limit first stop R p)
+    (ends : stop None ≡ true) (end : ℕ) where
   -- all tokens
 
   pub fails_all : (ts : Tokens) (f : ReadFault) → Fails f (p ts) → ReadsAll R limit end ts (Err (fault_at end ts f))
@@ -27,16 +28,19 @@ module _ {A : Type 0} {limit : ℕ} {first stop : Nexts} {R : Rule A} {p : Parse
   fails_all ts (fault.TooDeep left) h = Whole.deep_is P ends end ts left h
   fails_all ts fault.NoMemory h = tt
 
-  pub fails_none : (ts : Tokens) (f : ReadFault) → Fails f (p ts) → (a : A) → SpellsWithin R limit ts a → Answers (Err (fault_at end ts f)) a
+  pub fails_none : (ts : Tokens) (f : ReadFault) → Fails f (p ts) → (a : A) → SpellsWithin R limit ts a
+      → Answers (Err (fault_at end ts f)) a
   fails_none ts (fault.Unexpected left) h a s = let e : Bad left ≡ Good a [] = sym h ∙ Whole.within_reads P ends ts a s in cc
   fails_none ts (fault.TooDeep left) h a s = let e : Deep left ≡ Good a [] = sym h ∙ Whole.within_reads P ends ts a s in cc
   fails_none ts fault.NoMemory h a s = tt
 
-  pub rest_all : (ts us : Tokens) (a : A) → p ts ≡ Good a us → us ≢ [] → ReadsAll R limit end ts (Err (parse.Unexpected (place_of end (drop (length ts - length us) ts))))
+  pub rest_all : (ts us : Tokens) (a : A) → p ts ≡ Good a us → us ≢ []
+      → ReadsAll R limit end ts (Err (parse.Unexpected (place_of end (drop (length ts - length us) ts))))
   rest_all ts us a h n = Whole.rest_unexpected P ends end ts a us h n
 
   pub rest_none : (ts us : Tokens) (a b : A) → p ts ≡ Good a us → us ≢ [] → SpellsWithin R limit ts b → ⊥
-  rest_none ts us a b h n s = let e : Good a us ≡ Good b [] = sym h ∙ Whole.within_reads P ends ts b s in let f : us ≡ [] = cc in n f
+  rest_none ts us a b h n s =
+      let e : Good a us ≡ Good b [] = sym h ∙ Whole.within_reads P ends ts b s in let f : us ≡ [] = cc in n f
 
   pub end_all : (ts us : Tokens) (a : A) → p ts ≡ Good a us → us ≡ [] → ReadsAll R limit end ts (Ok a)
   end_all ts us a h n = Whole.good_spells P ends ts a (h ∙ ap (Good a) n)
@@ -49,17 +53,20 @@ module _ {A : Type 0} {limit : ℕ} {first stop : Nexts} {R : Rule A} {p : Parse
 
   -- tokens from one of them on
 
-  pub fails_front : (ts : Tokens) (from : ℕ) (f : ReadFault) → Fails f (p (drop from ts)) → ReadsFront R limit end ts from (Err (fault_at end (drop from ts) f))
+  pub fails_front : (ts : Tokens) (from : ℕ) (f : ReadFault) → Fails f (p (drop from ts))
+      → ReadsFront R limit end ts from (Err (fault_at end (drop from ts) f))
   fails_front ts from (fault.Unexpected left) h = Whole.bad_unfinished P ends end (drop from ts) left h
   fails_front ts from (fault.TooDeep left) h = Whole.deep_is P ends end (drop from ts) left h
   fails_front ts from fault.NoMemory h = tt
 
-  pub fails_nothing : (ts : Tokens) (from : ℕ) (f : ReadFault) → Fails f (p (drop from ts)) → (a : A) (taken : ℕ) → IsLongest R limit (drop from ts) a taken → Answers {A = A × ℕ} (Err (fault_at end (drop from ts) f)) (a, from + taken)
+  pub fails_nothing : (ts : Tokens) (from : ℕ) (f : ReadFault) → Fails f (p (drop from ts)) → (a : A) (taken : ℕ)
+      → IsLongest R limit (drop from ts) a taken → Answers {A = A × ℕ} (Err (fault_at end (drop from ts) f)) (a, from + taken)
   fails_nothing ts from (fault.Unexpected left) h a taken l = absurd (Whole.longest_bad P ends (drop from ts) a taken l left h)
   fails_nothing ts from (fault.TooDeep left) h a taken l = absurd (Whole.longest_deep P ends (drop from ts) a taken l left h)
   fails_nothing ts from fault.NoMemory h a taken l = tt
 
-  pub good_front : (ts us : Tokens) (from : ℕ) (a : A) → from ≤ length ts → p (drop from ts) ≡ Good a us → ReadsFront R limit end ts from (Ok (a, length ts - length us))
+  pub good_front : (ts us : Tokens) (from : ℕ) (a : A) → from ≤ length ts → p (drop from ts) ≡ Good a us
+      → ReadsFront R limit end ts from (Ok (a, length ts - length us))
   good_front ts us from a le h =
       let l = Whole.good_longest P ends (drop from ts) a us h in
       let x = (P.at (drop from ts)).good a us h in
@@ -69,7 +76,8 @@ module _ {A : Type 0} {limit : ℕ} {first stop : Nexts} {R : Rule A} {p : Parse
       let n : length (drop from ts) - length us ≡ length ts - length us - from = omega (arith, e, f, g) in
       (omega (arith, e, f, g), subst (IsLongest R limit (drop from ts) a) n l)
 
-  pub good_only : (ts us : Tokens) (from : ℕ) (a b : A) (taken : ℕ) → from ≤ length ts → p (drop from ts) ≡ Good a us → IsLongest R limit (drop from ts) b taken → ◌≡◌ {A = A × ℕ} (a, length ts - length us) (b, from + taken)
+  pub good_only : (ts us : Tokens) (from : ℕ) (a b : A) (taken : ℕ) → from ≤ length ts → p (drop from ts) ≡ Good a us
+      → IsLongest R limit (drop from ts) b taken → ◌≡◌ {A = A × ℕ} (a, length ts - length us) (b, from + taken)
   good_only ts us from a b taken le h l =
       let x = Whole.longest_good P ends (drop from ts) b taken l a us h in
       let e = length-drop from ts in
@@ -90,19 +98,28 @@ module _ {A : Type 0} {limit : ℕ} {first stop : Nexts} {R : Rule A} {p : Parse
         let x = exact_keeps P (drop from ts) a us (front_at (Good a us) i) in
         omega (arith, x, h, length-drop from ts)
 
-    pub from_good : (n : ℕ) (us : Tokens) (a : A) → from ≤ length ts → n ≡ length ts → p front ≡ Good a us → ReadsFront R limit end ts from (Ok (a, n - length us))
-    from_good n us a le h i = subst (λ m. ReadsFront R limit end ts from (Ok (a, m - length us))) (sym h) (good_front ts us from a le (front_at (Good a us) i))
+    pub from_good : (n : ℕ) (us : Tokens) (a : A) → from ≤ length ts → n ≡ length ts → p front ≡ Good a us
+        → ReadsFront R limit end ts from (Ok (a, n - length us))
+    from_good n us a le h i =
+        subst (λ m. ReadsFront R limit end ts from (Ok (a, m - length us))) (sym h)
+        (good_front ts us from a le (front_at (Good a us) i))
 
-    pub from_only : (n : ℕ) (us : Tokens) (a b : A) (taken : ℕ) → from ≤ length ts → n ≡ length ts → p front ≡ Good a us → IsLongest R limit (drop from ts) b taken → ◌≡◌ {A = A × ℕ} (a, n - length us) (b, from + taken)
-    from_only n us a b taken le h i l = ap (λ m. let y : A × ℕ = (a, m - length us) in y) h ∙ good_only ts us from a b taken le (front_at (Good a us) i) l
+    pub from_only : (n : ℕ) (us : Tokens) (a b : A) (taken : ℕ) → from ≤ length ts → n ≡ length ts → p front ≡ Good a us
+        → IsLongest R limit (drop from ts) b taken → ◌≡◌ {A = A × ℕ} (a, n - length us) (b, from + taken)
+    from_only n us a b taken le h i l =
+        ap (λ m. let y : A × ℕ = (a, m - length us) in y) h ∙ good_only ts us from a b taken le (front_at (Good a us) i) l
 
-    pub from_fails : (f : ReadFault) (g : ParseFault) → g ≡ fault_at end front f → Fails f (p front) → ReadsFront R limit end ts from (Err g)
+    pub from_fails : (f : ReadFault) (g : ParseFault) → g ≡ fault_at end front f → Fails f (p front)
+        → ReadsFront R limit end ts from (Err g)
     from_fails f g h i =
-        subst (λ z. ReadsFront R limit end ts from (Err z)) (sym (h ∙ ap (λ z. fault_at end z f) e)) (fails_front ts from f (subst (λ z. Fails f (p z)) e i))
+        subst (λ z. ReadsFront R limit end ts from (Err z)) (sym (h ∙ ap (λ z. fault_at end z f) e))
+        (fails_front ts from f (subst (λ z. Fails f (p z)) e i))
 
-    pub from_nothing : (f : ReadFault) (g : ParseFault) → g ≡ fault_at end front f → Fails f (p front) → (a : A) (taken : ℕ) → IsLongest R limit (drop from ts) a taken → Answers {A = A × ℕ} (Err g) (a, from + taken)
+    pub from_nothing : (f : ReadFault) (g : ParseFault) → g ≡ fault_at end front f → Fails f (p front) → (a : A) (taken : ℕ)
+        → IsLongest R limit (drop from ts) a taken → Answers {A = A × ℕ} (Err g) (a, from + taken)
     from_nothing f g h i a taken l =
-        subst (λ z. Answers {A = A × ℕ} (Err z) (a, from + taken)) (sym (h ∙ ap (λ z. fault_at end z f) e)) (fails_nothing ts from f (subst (λ z. Fails f (p z)) e i) a taken l)
+        subst (λ z. Answers {A = A × ℕ} (Err z) (a, from + taken)) (sym (h ∙ ap (λ z. fault_at end z f) e))
+        (fails_nothing ts from f (subst (λ z. Fails f (p z)) e i) a taken l)
 
   -- The same of all tokens.
 
@@ -116,18 +133,26 @@ module _ {A : Type 0} {limit : ℕ} {first stop : Nexts} {R : Rule A} {p : Parse
     pub whole_only : (us : Tokens) (a b : A) → p items ≡ Good a us → SpellsWithin R limit ts b → a ≡ b
     whole_only us a b h s = end_only ts us a b (whole_at (Good a us) h) s
 
-    pub whole_rest : (us : Tokens) (a : A) (place : Span) → place ≡ place_of end (drop (length items - length us) items) → p items ≡ Good a us → us ≢ [] → ReadsAll R limit end ts (Err (parse.Unexpected place))
+    pub whole_rest : (us : Tokens) (a : A) (place : Span) → place ≡ place_of end (drop (length items - length us) items)
+        → p items ≡ Good a us → us ≢ [] → ReadsAll R limit end ts (Err (parse.Unexpected place))
     whole_rest us a place h i n =
-        subst (λ z. ReadsAll R limit end ts (Err (parse.Unexpected z))) (sym (h ∙ ap (λ z. place_of end (drop (length z - length us) z)) e)) (rest_all ts us a (whole_at (Good a us) i) n)
+        subst (λ z. ReadsAll R limit end ts (Err (parse.Unexpected z)))
+        (sym (h ∙ ap (λ z. place_of end (drop (length z - length us) z)) e)) (rest_all ts us a (whole_at (Good a us) i) n)
 
     pub whole_none : (us : Tokens) (a b : A) → p items ≡ Good a us → us ≢ [] → SpellsWithin R limit ts b → ⊥
     whole_none us a b h n s = rest_none ts us a b (whole_at (Good a us) h) n s
 
-    pub whole_fails : (f : ReadFault) (g : ParseFault) → g ≡ fault_at end items f → Fails f (p items) → ReadsAll R limit end ts (Err g)
-    whole_fails f g h i = subst (λ z. ReadsAll R limit end ts (Err z)) (sym (h ∙ ap (λ z. fault_at end z f) e)) (fails_all ts f (subst (λ z. Fails f (p z)) e i))
+    pub whole_fails : (f : ReadFault) (g : ParseFault) → g ≡ fault_at end items f → Fails f (p items)
+        → ReadsAll R limit end ts (Err g)
+    whole_fails f g h i =
+        subst (λ z. ReadsAll R limit end ts (Err z)) (sym (h ∙ ap (λ z. fault_at end z f) e))
+        (fails_all ts f (subst (λ z. Fails f (p z)) e i))
 
-    pub whole_refuses : (f : ReadFault) (g : ParseFault) → g ≡ fault_at end items f → Fails f (p items) → (a : A) → SpellsWithin R limit ts a → Answers (Err g) a
-    whole_refuses f g h i a s = subst (λ z. Answers (Err z) a) (sym (h ∙ ap (λ z. fault_at end z f) e)) (fails_none ts f (subst (λ z. Fails f (p z)) e i) a s)
+    pub whole_refuses : (f : ReadFault) (g : ParseFault) → g ≡ fault_at end items f → Fails f (p items) → (a : A)
+        → SpellsWithin R limit ts a → Answers (Err g) a
+    whole_refuses f g h i a s =
+        subst (λ z. Answers (Err z) a) (sym (h ∙ ap (λ z. fault_at end z f) e))
+        (fails_none ts f (subst (λ z. Fails f (p z)) e i) a s)
 
 -- whether tokens are left
 pub none_left : (us : Tokens) (b : Bool) → b ≡ eqb (length us) 0 → b ≡ true → us ≡ []

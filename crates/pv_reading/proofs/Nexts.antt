@@ -68,7 +68,8 @@ known_fixed j = ap (λ b. cond b (Some tt) None) (eq-eqb j j refl)
 
 pub fixed_is : (j : ℕ) (x : LexemeKind) (t : Unit {0}) → is_fixed j x ≡ Some t → x ≡ k.Fixed j
 fixed_is j (k.Fixed i) t h =
-    let go : (b : Bool) → nat_eq i j ≡ b → cond b (Some tt) None ≡ Some t → k.Fixed i ≡ k.Fixed j = elim [ true ↦ λ e f. ap k.Fixed (eqb-true i j e) | false ↦ λ e f. cc ] in
+    let go : (b : Bool) → nat_eq i j ≡ b → cond b (Some tt) None ≡ Some t → k.Fixed i ≡ k.Fixed j =
+    elim [ true ↦ λ e f. ap k.Fixed (eqb-true i j e) | false ↦ λ e f. cc ] in
     go (nat_eq i j) refl h
 fixed_is j (k.Named n) t h = cc
 fixed_is j (k.Number n) t h = cc
@@ -108,7 +109,8 @@ apart_name {A = A} h = record { lacks = λ x n e. ap (λ z. A (Some z)) (name_is
 pub apart_number : {A : Nexts} → ((n : ℕ) → A (Some (k.Number n)) ≡ false) → Apart number_of A
 apart_number {A = A} h = record { lacks = λ x n e. ap (λ z. A (Some z)) (number_is x n e) ∙ h n }
 
-table_lacks : {B : Type 0} (A : Nexts) (t : List (ℕ × B)) → Each (λ j. A (Some (k.Fixed j)) ≡ false) t → (x : LexemeKind) (b : B) → listed_in t x ≡ Some b → A (Some x) ≡ false
+table_lacks : {B : Type 0} (A : Nexts) (t : List (ℕ × B)) → Each (λ j. A (Some (k.Fixed j)) ≡ false) t → (x : LexemeKind) (b : B)
+    → listed_in t x ≡ Some b → A (Some x) ≡ false
 table_lacks A t h (k.Fixed j) b e = each_entry (λ j. A (Some (k.Fixed j)) ≡ false) t j b e h
 table_lacks A t h (k.Named n) b e = cc
 table_lacks A t h (k.Number n) b e = cc
@@ -120,11 +122,13 @@ some_is : {B : Type 0} (o : Option B) → is_some o ≡ true → (b : B) × (o �
 some_is None h = cc
 some_is (Some b) h = (b, refl)
 
-knows_in : {B : Type 0} (A : Nexts) (f : LexemeKind → Option B) → ((x : LexemeKind) (b : B) → f x ≡ Some b → A (Some x) ≡ true) → (o : Option LexemeKind) → knows f o ≡ true → A o ≡ true
+knows_in : {B : Type 0} (A : Nexts) (f : LexemeKind → Option B) → ((x : LexemeKind) (b : B) → f x ≡ Some b → A (Some x) ≡ true)
+    → (o : Option LexemeKind) → knows f o ≡ true → A o ≡ true
 knows_in A f h None e = cc
 knows_in A f h (Some x) e = let z = some_is (f x) e in h x z.0 z.1
 
-pub sub_knows : {B : Type 0} {A : Nexts} (f : LexemeKind → Option B) → ((x : LexemeKind) (b : B) → f x ≡ Some b → A (Some x) ≡ true) → Sub (knows f) A
+pub sub_knows : {B : Type 0} {A : Nexts} (f : LexemeKind → Option B)
+    → ((x : LexemeKind) (b : B) → f x ≡ Some b → A (Some x) ≡ true) → Sub (knows f) A
 sub_knows {A = A} f h = record { has = knows_in A f h }
 
 pub sub_fixed : {A : Nexts} (j : ℕ) → A (Some (k.Fixed j)) ≡ true → Sub (knows (is_fixed j)) A
@@ -136,17 +140,21 @@ sub_name {A = A} h = sub_knows name_of (λ x n e. ap (λ z. A (Some z)) (name_is
 pub sub_number : {A : Nexts} → ((n : ℕ) → A (Some (k.Number n)) ≡ true) → Sub (knows number_of) A
 sub_number {A = A} h = sub_knows number_of (λ x n e. ap (λ z. A (Some z)) (number_is x n e) ∙ h n)
 
-table_at : {B : Type 0} (A : Nexts) (t : List (ℕ × B)) → Each (λ j. A (Some (k.Fixed j)) ≡ true) t → (x : LexemeKind) (b : B) → listed_in t x ≡ Some b → A (Some x) ≡ true
+table_at : {B : Type 0} (A : Nexts) (t : List (ℕ × B)) → Each (λ j. A (Some (k.Fixed j)) ≡ true) t → (x : LexemeKind) (b : B)
+    → listed_in t x ≡ Some b → A (Some x) ≡ true
 table_at A t h (k.Fixed j) b e = each_entry (λ j. A (Some (k.Fixed j)) ≡ true) t j b e h
 table_at A t h (k.Named n) b e = cc
 table_at A t h (k.Number n) b e = cc
 
-pub sub_table : {B : Type 0} {A : Nexts} (t : List (ℕ × B)) → Each (λ j. A (Some (k.Fixed j)) ≡ true) t → Sub (knows (listed_in t)) A
+pub sub_table : {B : Type 0} {A : Nexts} (t : List (ℕ × B)) → Each (λ j. A (Some (k.Fixed j)) ≡ true) t
+    → Sub (knows (listed_in t)) A
 sub_table {A = A} t h = sub_knows (listed_in t) (table_at A t h)
 
 -- a set apart from what f knows
-pub no_sight : {B : Type 0} (f : LexemeKind → Option B) (A : Nexts) → Apart f A → (o : Option LexemeKind) → A o ≡ true → sight_of f o ≡ None
+pub no_sight : {B : Type 0} (f : LexemeKind → Option B) (A : Nexts) → Apart f A → (o : Option LexemeKind) → A o ≡ true
+    → sight_of f o ≡ None
 no_sight f A h None e = refl
 no_sight {B = B} f A h (Some x) e =
-    let go : (z : Option B) → f x ≡ z → z ≡ None = elim [ None ↦ λ g. refl | Some b ↦ λ g. let c : true ≡ false = sym e ∙ h.lacks x b g in cc ] in
+    let go : (z : Option B) → f x ≡ z → z ≡ None =
+    elim [ None ↦ λ g. refl | Some b ↦ λ g. let c : true ≡ false = sym e ∙ h.lacks x b g in cc ] in
     go (f x) refl

@@ -26,7 +26,8 @@ module _ {A : Type 0} where
   pub fails_at : (f : ReadFault) (read other : Reading A) → read ≡ other → Fails f other → Fails f read
   fails_at f read other h g = subst (Fails f) (sym h) g
 
-pub fails_onward : {A B : Type 0} (f : ReadFault) (next : A → Parser B) (read : Reading A) → Fails f read → Fails f (onward next read)
+pub fails_onward : {A B : Type 0} (f : ReadFault) (next : A → Parser B) (read : Reading A) → Fails f read
+    → Fails f (onward next read)
 fails_onward (fault.Unexpected left) next read g = ap (onward next) g
 fails_onward (fault.TooDeep left) next read g = ap (onward next) g
 fails_onward fault.NoMemory next read g = tt
@@ -34,9 +35,11 @@ fails_onward fault.NoMemory next read g = tt
 -- One token of sight.
 
 module _ {A B : Type 0} (q : B → Span → Parser A) (r : Parser A) where
-  chosen_some : (m : Option B) (x : Lexeme) (ts us : Tokens) (b : B) (s : Span) → seen m x.span ts ≡ Some (b, s, us) → chosen m q r x ts ≡ q b s us
+  chosen_some : (m : Option B) (x : Lexeme) (ts us : Tokens) (b : B) (s : Span) → seen m x.span ts ≡ Some (b, s, us)
+      → chosen m q r x ts ≡ q b s us
   chosen_some None x ts us b s h = cc
-  chosen_some (Some d) x ts us b s h = let g : (d, x.span, ts) ≡ (b, s, us) = cc in ap (λ (z : B × Span × Tokens). q z.0 z.1 z.2) g
+  chosen_some (Some d) x ts us b s h =
+      let g : (d, x.span, ts) ≡ (b, s, us) = cc in ap (λ (z : B × Span × Tokens). q z.0 z.1 z.2) g
 
   chosen_none : (m : Option B) (x : Lexeme) (ts : Tokens) → seen m x.span ts ≡ None → chosen m q r x ts ≡ r (x ∷ ts)
   chosen_none None x ts h = refl
@@ -56,7 +59,8 @@ module _ {B : Type 0} where
   seen_shorter None s r ts us b h = cc
   seen_shorter (Some d) s r ts us b h = let g : (d, r, ts) ≡ (b, s, us) = cc in ap (λ (z : B × Span × Tokens). z.2) g
 
-  pub ahead_shorter : (f : LexemeKind → Option B) (ts us : Tokens) (b : B) (s : Span) → ahead f ts ≡ Some (b, s, us) → length us < length ts
+  pub ahead_shorter : (f : LexemeKind → Option B) (ts us : Tokens) (b : B) (s : Span) → ahead f ts ≡ Some (b, s, us)
+      → length us < length ts
   ahead_shorter f [] us b s h = cc
   ahead_shorter f (x ∷ ts) us b s h = omega (arith, ap length (seen_shorter (f x.kind) s x.span ts us b h))
 
@@ -86,7 +90,8 @@ module _ {A R : Type 0} (o : Option R) (f : R → Parser A) (us : Tokens) where
 -- The same as rewriting of what stands in a goal.
 
 module _ {B : Type 0} (f : LexemeKind → Option B) (ts : Tokens) where
-  pub picked : (us : Tokens) (b : B) (s : Span) → ahead f ts ≡ Some (b, s, us) → {A : Type 0} (q : B → Span → Parser A) (r : Parser A) → pick f q r ts ≡ q b s us
+  pub picked : (us : Tokens) (b : B) (s : Span) → ahead f ts ≡ Some (b, s, us)
+      → {A : Type 0} (q : B → Span → Parser A) (r : Parser A) → pick f q r ts ≡ q b s us
   picked us b s h q r = pick_some f q r ts us b s h
 
   pub passed : ahead f ts ≡ None → {A : Type 0} (q : B → Span → Parser A) (r : Parser A) → pick f q r ts ≡ r ts
@@ -95,23 +100,29 @@ module _ {B : Type 0} (f : LexemeKind → Option B) (ts : Tokens) where
 -- What is read goes on.
 
 -- what stands behind a token that has to come goes on as what was read there
-pub expect_onward : {A B : Type 0} (j : ℕ) (q : Span → Parser A) (q' : Span → Parser B) (g : A → Parser B) → ((s : Span) (us : Tokens) → q' s us ≡ onward g (q s us)) → (ts : Tokens)
+pub expect_onward : {A B : Type 0} (j : ℕ) (q : Span → Parser A) (q' : Span → Parser B) (g : A → Parser B)
+    → ((s : Span) (us : Tokens) → q' s us ≡ onward g (q s us)) → (ts : Tokens)
     → expect j q' ts ≡ onward g (expect j q ts)
 expect_onward j q q' g Q [] = refl
 expect_onward j q q' g Q (x ∷ us) =
-    let go : (z : Option (Unit {0})) → chosen z (λ t s. q' s) refuse x us ≡ onward g (chosen z (λ t s. q s) refuse x us) = elim [ Some b ↦ Q x.span us | None ↦ refl ] in
+    let go : (z : Option (Unit {0})) → chosen z (λ t s. q' s) refuse x us ≡ onward g (chosen z (λ t s. q s) refuse x us) =
+    elim [ Some b ↦ Q x.span us | None ↦ refl ] in
     go (is_fixed j x.kind)
 
-pub name_onward : {A B : Type 0} (q : Word → Parser A) (q' : Word → Parser B) (g : A → Parser B) → ((w : Word) (us : Tokens) → q' w us ≡ onward g (q w us)) → (ts : Tokens)
+pub name_onward : {A B : Type 0} (q : Word → Parser A) (q' : Word → Parser B) (g : A → Parser B)
+    → ((w : Word) (us : Tokens) → q' w us ≡ onward g (q w us)) → (ts : Tokens)
     → expect_name q' ts ≡ onward g (expect_name q ts)
 name_onward q q' g Q [] = refl
 name_onward q q' g Q (x ∷ us) =
-    let go : (z : Option Name) → chosen z (λ n s. q' (record { name = n; span = s })) refuse x us ≡ onward g (chosen z (λ n s. q (record { name = n; span = s })) refuse x us)
+    let go : (z : Option Name)
+    → chosen z (λ n s. q' (record { name = n; span = s })) refuse x us
+    ≡ onward g (chosen z (λ n s. q (record { name = n; span = s })) refuse x us)
     = elim [ Some n ↦ Q (record { name = n; span = x.span }) us | None ↦ refl ] in
     go (name_of x.kind)
 
 -- what is read up to a closing token goes on with both
-pub closed_then : {A B : Type 0} (j : ℕ) (k : A → Span → Parser B) (x : Reading A) → onward (λ a. expect j (k a)) x ≡ onward {A = A × Span} (λ z. k z.0 z.1) (onward (λ a. expect j (λ t. give (a, t))) x)
+pub closed_then : {A B : Type 0} (j : ℕ) (k : A → Span → Parser B) (x : Reading A)
+    → onward (λ a. expect j (k a)) x ≡ onward {A = A × Span} (λ z. k z.0 z.1) (onward (λ a. expect j (λ t. give (a, t))) x)
 closed_then j k (Good a us) = expect_onward j (λ t. give (a, t)) (k a) (λ z. k z.0 z.1) (λ s us. refl) us
 closed_then j k (Bad left) = refl
 closed_then j k (Deep left) = refl

@@ -109,7 +109,8 @@ many j p found us = many_turns (suc (length us)) j p found us
 -- what p reads, once or more with the token c between, up to the token j and behind it, and the place of that
 abbrev pub series_turns : {A : Type 0} → ℕ → ℕ → ℕ → Parser A → List A → Parser (List A × Span)
 series_turns zero c j p found = refuse
-series_turns (suc m) c j p found = p >>= λ x. fixed c (λ s. series_turns m c j p (found ++ x ∷ [])) (expect j (λ l. give (found ++ x ∷ [], l)))
+series_turns (suc m) c j p found =
+    p >>= λ x. fixed c (λ s. series_turns m c j p (found ++ x ∷ [])) (expect j (λ l. give (found ++ x ∷ [], l)))
 
 unfoldable pub series : {A : Type 0} → ℕ → ℕ → Parser A → List A → Parser (List A × Span)
 series c j p found us = series_turns (suc (length us)) c j p found us

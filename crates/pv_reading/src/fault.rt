@@ -1,5 +1,6 @@
 use pv_base::Span;
 use std::alloc::{AllocError, AllocFailed};
+use thiserror::Error;
 
 /// Why tokens were not read, inside the readers. A place is the number of tokens from it to the end.
 #[derive(Clone, Copy, Debug, PartialEq, Eq, Drop)]
@@ -13,14 +14,17 @@ pub enum ReadFault {
 }
 
 /// Why tokens spell nothing.
-#[derive(Clone, Copy, Debug, PartialEq, Eq, Drop)]
+#[derive(Clone, Copy, Debug, PartialEq, Eq, Drop, Error)]
 pub enum ParseFault {
     /// The first token up to which the tokens are the front of nothing that can be spelled; at the end of the text an empty
     /// span there.
+    #[error("the token at byte {} doesn't go on with those before", .0.from)]
     Unexpected(Span),
     /// The first token that opens one construct more than the 64 that may be open.
+    #[error("more than 64 constructs are open at byte {}", .0.from)]
     TooDeep(Span),
     /// Memory ran out.
+    #[error("out of memory")]
     NoMemory,
 }
 

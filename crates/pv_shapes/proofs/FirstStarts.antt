@@ -3,8 +3,8 @@ use Rattle.std.proofs.Common.{◌≡◌, ℕ, ◌<◌, ◌≤◌, Bool, true, fa
 use Rattle.std.specs.Prelude.{nat_lt, All, if◌then◌else◌}
 use Rattle.std.proofs.lemmas.Bool.{ltb-true, ltb-false}
 use Rattle.std.proofs.lemmas.List.Elements.{All-nil, All-cons}
-use Rattle.pv_rules.specs.declared.fault.ShapeFault.{ShapeFault}
-use Rattle.pv_rules.specs.Shapes.{start_of, earlier, first_of, IsFirst}
+use Rattle.pv_ast.specs.declared.fault.ShapeFault.{ShapeFault}
+use Rattle.pv_ast.specs.Rules.Shapes.{start_of, earlier, first_of, IsFirst}
 
 some_earlier : (f : ShapeFault) (b : Option ShapeFault) → earlier (Some f) b ≡ None → ⊥
 some_earlier f None e = cc
@@ -24,7 +24,8 @@ some_same x y e = cc
 bounded_some : (n : ℕ) (y : ShapeFault) → n ≤ start_of y → Bounded n (Some y)
 bounded_some n y h = record { bound = λ g e. rw (← some_same y g e) h }
 
-bounded_two : (n : ℕ) (x y : ShapeFault) (b : Bool) → nat_lt (start_of y) (start_of x) ≡ b → Bounded n (if b then Some y else Some x) → (n ≤ start_of x) × Bounded n (Some y)
+bounded_two : (n : ℕ) (x y : ShapeFault) (b : Bool) → nat_lt (start_of y) (start_of x) ≡ b
+    → Bounded n (if b then Some y else Some x) → (n ≤ start_of x) × Bounded n (Some y)
 bounded_two n x y true t h =
     let low : n ≤ start_of y = h.bound y refl in
     let less : start_of y < start_of x = ltb-true (start_of y) (start_of x) t in
@@ -63,16 +64,19 @@ is_behind x f xs l h = record {
   no_earlier = h.no_earlier;
 }
 
-first_two : (x y f : ShapeFault) (xs : List ShapeFault) (b : Bool) → nat_lt (start_of y) (start_of x) ≡ b → first_of xs ≡ Some y → (first_of xs ≡ Some f → IsFirst f xs) → (if b then Some y else Some x) ≡ Some f → IsFirst f (x ∷ xs)
+first_two : (x y f : ShapeFault) (xs : List ShapeFault) (b : Bool) → nat_lt (start_of y) (start_of x) ≡ b → first_of xs ≡ Some y
+    → (first_of xs ≡ Some f → IsFirst f xs) → (if b then Some y else Some x) ≡ Some f → IsFirst f (x ∷ xs)
 first_two x y f xs true t r inner e =
     let less : start_of y < start_of x = ltb-true (start_of y) (start_of x) t in
     let same = some_same y f e in
     is_behind x f xs (rw (← same) less) (inner (r ∙ e))
 first_two x y f xs false t r inner e =
     let less : start_of x ≤ start_of y = ltb-false (start_of y) (start_of x) t in
-    subst (λ g. IsFirst g (x ∷ xs)) (some_same x f e) (is_head x xs (subst (Bounded (start_of x)) (sym r) (bounded_some (start_of x) y less)))
+    subst (λ g. IsFirst g (x ∷ xs)) (some_same x f e)
+    (is_head x xs (subst (Bounded (start_of x)) (sym r) (bounded_some (start_of x) y less)))
 
-first_of_all : (x f : ShapeFault) (xs : List ShapeFault) (r : Option ShapeFault) → first_of xs ≡ r → (first_of xs ≡ Some f → IsFirst f xs) → earlier (Some x) r ≡ Some f → IsFirst f (x ∷ xs)
+first_of_all : (x f : ShapeFault) (xs : List ShapeFault) (r : Option ShapeFault) → first_of xs ≡ r
+    → (first_of xs ≡ Some f → IsFirst f xs) → earlier (Some x) r ≡ Some f → IsFirst f (x ∷ xs)
 first_of_all x f xs None n inner e =
     subst (λ g. IsFirst g (x ∷ xs)) (some_same x f e) (is_head x xs (record { bound = λ g i. absurd (cc (sym n ∙ i)) }))
 first_of_all x f xs (Some y) r inner e = first_two x y f xs (nat_lt (start_of y) (start_of x)) refl r inner e

@@ -5,3 +5,4 @@ pub mod StatementLayers
 pub mod FirstStarts
 pub mod Worked
 pub mod Inversion
+pub mod Making

@@ -1,7 +1,7 @@
 -- Where a variable is used.
 use Rattle.std.proofs.Common.{◌≡◌, Bool, true, false, not, Option, Some, None, refl}
 use Rattle.std.specs.Prelude.{◌||◌, ℤ, if◌then◌else◌}
-use Rattle.pv_rules.specs.Items.{Use, unused, shifted, elsewhere, is_used, both_uses, Facts, use_of_index, use_at, use_if, shift_of, facts_of_variable}
+use Rattle.pv_ast.specs.Rules.Items.{Use, unused, shifted, elsewhere, is_used, both_uses, Facts, use_of_index, use_at, use_if, shift_of, facts_of_variable}
 
 used_either : (same : Bool) (s : ℤ) → is_used (if same then shifted s else elsewhere) ≡ true
 used_either true s = refl
@@ -18,7 +18,8 @@ used_at : (s : Option ℤ) → is_used (use_at s) ≡ true
 used_at None = refl
 used_at (Some s) = refl
 
-used_element : (a i : Use) (s : Option ℤ) → is_used (if not (is_used i) then a else (if not (is_used a) then use_at s else elsewhere)) ≡ (is_used a || is_used i)
+used_element : (a i : Use) (s : Option ℤ)
+    → is_used (if not (is_used i) then a else (if not (is_used a) then use_at s else elsewhere)) ≡ (is_used a || is_used i)
 used_element unused unused s = refl
 used_element (shifted t) unused s = refl
 used_element elsewhere unused s = refl

@@ -7,8 +7,8 @@ use Rattle.pv_ast.specs.declared.Operator.{Operator}
 use Rattle.pv_ast.specs.declared.Operator.TheVariants as op
 use Rattle.pv_ast.specs.declared.Token.TheVariants as token
 use Rattle.pv_ast.specs.declared.ExprKind.{ExprKind-F}
-use Rattle.pv_rules.specs.declared.fault.ShapeFault.TheVariants.{QuantifierShape, ItemShape}
-use Rattle.pv_rules.specs.Items.{Shape, KindShape, EachShape, shape_in_kind, shape_in_each, shape_in_expr, Item, constant, fact, permission, committed, position, guarded, fixed, clause}
+use Rattle.pv_ast.specs.declared.fault.ShapeFault.TheVariants.{QuantifierShape, ItemShape}
+use Rattle.pv_ast.specs.Rules.Items.{Shape, KindShape, EachShape, shape_in_kind, shape_in_each, shape_in_expr, Item, constant, fact, permission, committed, position, guarded, fixed, clause}
 
 -- the span of the part with this number
 abbrev place : ℕ → Span
@@ -66,7 +66,8 @@ is_zero e = binary op.Eq e (number 0)
 element_is_fact : item (is_zero (element a i)) ≡ Some (fact (pos 0))
 element_is_fact = refl
 
-nothing_added_is_fact : item (binary op.Eq (element a (binary op.Add i (number 0))) (element b (binary op.Sub i (number 0)))) ≡ Some (fact (pos 0))
+nothing_added_is_fact : item (binary op.Eq (element a (binary op.Add i (number 0))) (element b (binary op.Sub i (number 0))))
+    ≡ Some (fact (pos 0))
 nothing_added_is_fact = refl
 
 next_is_fact : item (is_zero (element a (binary op.Add i (number 1)))) ≡ Some (fact (pos 1))
@@ -137,19 +138,23 @@ position_twice = refl
 
 -- guards
 
-guarded_permission : item (binary op.Implies (binary op.Lt i n) (whole_permission (element a i))) ≡ Some (guarded (permission (pos 0)))
+guarded_permission : item (binary op.Implies (binary op.Lt i n) (whole_permission (element a i)))
+    ≡ Some (guarded (permission (pos 0)))
 guarded_permission = refl
 
-two_guards : item (binary op.Implies (binary op.And (binary op.Lt (number 0) i) (binary op.Le n n)) (whole_permission (element a i))) ≡ Some (guarded (permission (pos 0)))
+two_guards : item (binary op.Implies (binary op.And (binary op.Lt (number 0) i) (binary op.Le n n))
+    (whole_permission (element a i))) ≡ Some (guarded (permission (pos 0)))
 two_guards = refl
 
-guard_of_guard : item (binary op.Implies (binary op.Lt i n) (binary op.Implies (binary op.Lt n i) (whole_permission (element a i)))) ≡ Some (guarded (guarded (permission (pos 0))))
+guard_of_guard : item (binary op.Implies (binary op.Lt i n)
+    (binary op.Implies (binary op.Lt n i) (whole_permission (element a i)))) ≡ Some (guarded (guarded (permission (pos 0))))
 guard_of_guard = refl
 
 equation_is_no_guard : item (binary op.Implies (binary op.Eq n n) (whole_permission (element a i))) ≡ None
 equation_is_no_guard = refl
 
-two_items_under_guard : item (binary op.Implies (binary op.Lt i n) (binary op.Star (whole_permission (element a i)) (is_zero (element a i)))) ≡ None
+two_items_under_guard : item (binary op.Implies (binary op.Lt i n)
+    (binary op.Star (whole_permission (element a i)) (is_zero (element a i)))) ≡ None
 two_items_under_guard = refl
 
 -- one position
@@ -163,12 +168,21 @@ term_first = refl
 fixed_with_variable : item (binary op.Implies (binary op.Eq i n) (whole_permission (element a i))) ≡ None
 fixed_with_variable = refl
 
-guarded_fixed : item (binary op.Implies (binary op.Lt i n) (binary op.Implies (binary op.Eq i n) (whole_permission (element a n)))) ≡ Some (guarded fixed)
+guarded_fixed : item (binary op.Implies (binary op.Lt i n)
+    (binary op.Implies (binary op.Eq i n) (whole_permission (element a n)))) ≡ Some (guarded fixed)
 guarded_fixed = refl
 
 -- `(\forall* int i = 0 .. 1; body)` or `(\forall int i = 0 .. 1; body)`, at the place 9
 abbrev each : Bool → Shape → Shape
-each star body = at 9 (ExprKind-F.Each (shape_in_each (record { star = star; name = word 0; low = number 0; high = number 1; body = body; written = None })))
+each star body =
+    at 9 (ExprKind-F.Each (shape_in_each (record {
+      star = star;
+      name = word 0;
+      low = number 0;
+      high = number 1;
+      body = body;
+      written = None;
+    })))
 
 -- the same part, at the place 7
 abbrev at_seven : Shape
@@ -180,7 +194,8 @@ star_of_items = refl
 star_of_no_item : (each true (binary op.Star (whole_permission (element a i)) at_seven)).faults ≡ QuantifierShape (place 7) ∷ []
 star_of_no_item = refl
 
-truth_of_facts : (each false (binary op.And (is_zero (element a i)) (is_zero (element a (binary op.Add i (number 1)))))).faults ≡ []
+truth_of_facts : (each false (binary op.And (is_zero (element a i)) (is_zero (element a (binary op.Add i (number 1)))))).faults
+    ≡ []
 truth_of_facts = refl
 
 truth_of_committed : (each false (token_committed o)).faults ≡ QuantifierShape (place 0) ∷ []
@@ -197,7 +212,8 @@ negated = refl
 on_the_left : (binary op.Implies (each false (is_zero n)) (is_zero n)).faults ≡ QuantifierShape (place 9) ∷ []
 on_the_left = refl
 
-on_the_right : (binary op.Implies (is_zero n) (binary op.Star (is_zero n) (binary op.Implies (is_zero n) (each true (is_zero n))))).faults ≡ []
+on_the_right : (binary op.Implies (is_zero n)
+    (binary op.Star (is_zero n) (binary op.Implies (is_zero n) (each true (is_zero n))))).faults ≡ []
 on_the_right = refl
 
 -- a quantifier in a clause of a block, and under a position that is fixed

@@ -1,12 +1,12 @@
 -- The parts that an item has, in the tree of its expression.
-use Rattle.std.specs.Prelude.{ℕ, ℤ, ◌≡◌, true, Some, []}
+use Rattle.std.specs.Prelude.{ℕ, ℤ, ◌≡◌, ◌⊎◌, Bool, true, false, Option, Some, None, []}
 use Rattle.pv_base.specs.declared.Span.{Span}
 use Rattle.pv_ast.specs.declared.Operator.{Operator}
 use Rattle.pv_ast.specs.declared.Operator.TheVariants as op
 use Rattle.pv_ast.specs.declared.Token.TheVariants as token
 use Rattle.pv_ast.specs.declared.Expr.{Expr}
 use Rattle.pv_ast.specs.declared.ExprKind.TheVariants as tree
-use Rattle.pv_rules.specs.Items.{Facts, Use, Item, constant, fact, permission, committed, position, guarded, fixed, unused, shifted, shift_of, guard, fixing, shape_of, item_of, is_term, has_variable_and_term}
+use Rattle.pv_ast.specs.Rules.Items.{Facts, Use, Item, constant, fact, permission, committed, position, guarded, fixed, unused, shifted, shift_of, guard, fixing, shape_of, item_of, is_term, has_variable_and_term}
 
 -- what an expression shows of the variable of this number
 abbrev pub facts_of : ℕ → Expr → Facts
@@ -38,12 +38,23 @@ pub record IsCommitted (name : ℕ) (e : Expr) : Type 0 where
   pub stands : e.kind ≡ tree.Token token.Committed operand
   pub term : IsTerm name operand
 
--- the variable and a term, with an operator between them
+-- the operators that compare two values
+abbrev pub compares : Operator → Bool
+compares op.Eq = true
+compares op.Ne = true
+compares op.Lt = true
+compares op.Le = true
+compares op.Gt = true
+compares op.Ge = true
+compares _ = false
+
+-- the variable and a term, compared with each other
 pub record IsPosition (name : ℕ) (e : Expr) : Type 0 where
   pub operator : Operator
   pub left : Expr
   pub right : Expr
   pub stands : e.kind ≡ tree.Binary operator left right
+  pub comparison : compares operator ≡ true
   pub sides : has_variable_and_term (facts_of name left) (facts_of name right) ≡ true
 
 -- `guard ==> right`, where the right side is the item
@@ -77,3 +88,13 @@ HasParts name committed e = IsCommitted name e
 HasParts name position e = IsPosition name e
 HasParts name (guarded item) e = IsGuarded name item e
 HasParts name fixed e = IsFixed name e
+
+-- a constant or a fact: the form that counts where an expression has several
+abbrev pub IsPlain : Option Item → Type 0
+IsPlain (Some constant) = Unit {0}
+IsPlain (Some (fact s)) = Unit {0}
+IsPlain _ = ⊥
+
+-- the item is the one that counts, or a constant or a fact counts before it
+abbrev pub IsOrIsPlain : Item → Option Item → Type 0
+IsOrIsPlain item found = (found ≡ Some item) ⊎ IsPlain found

@@ -1,9 +1,9 @@
 -- What the code's values stand for.
 use Rattle.std.specs.Prelude.{ℕ, Option, Some, None}
 use Rattle.pv_base.specs.declared.Name.{Name}
-use Rattle.pv_rules.specs.Items as items
-use Rattle.pv_rules.specs.Items.{Shape, KindShape}
-use Rattle.pv_rules.specs.Shapes.{Around}
+use Rattle.pv_ast.specs.Rules.Items as items
+use Rattle.pv_ast.specs.Rules.Items.{Shape, KindShape}
+use Rattle.pv_ast.specs.Rules.Shapes.{Environment}
 use Rattle.pv_shapes.specs.declared.facts.Uses.{Uses}
 use Rattle.pv_shapes.specs.declared.facts.Uses.TheVariants as uses
 use Rattle.pv_shapes.specs.declared.facts.Form.{Form}
@@ -39,5 +39,5 @@ abbrev pub name_as : Option Name → Option ℕ
 name_as None = None
 name_as (Some name) = Some name.0
 
-abbrev pub around_as : Inside → Around
-around_as i = record { block = name_as i.block; loop = name_as i.counted }
+abbrev pub environment_as : Inside → Environment
+environment_as i = record { block = name_as i.block; loop = name_as i.counted }

@@ -1,10 +1,9 @@
 ghost use Rattle.std.specs.Prelude.{◌≡◌, ◌++◌};
-ghost use Rattle.pv_rules.specs.Shapes as shapes;
+ghost use Rattle.pv_ast.specs.Rules.Shapes as shapes;
 
 use crate::firsts::earlier;
 use crate::quantifiers::{quantifier_in, quantifier_in_all};
-use pv_ast::{Expr, Range, Right, RightKind};
-use pv_rules::ShapeFault;
+use pv_ast::{Expr, Range, Right, RightKind, ShapeFault};
 
 /// The first quantifier in an expression that may be left out.
 pub(crate) fn quantifier_in_option(e: &Option<Expr>) -> Option<ShapeFault>

@@ -1,5 +1,5 @@
 ghost use Rattle.std.specs.Prelude.{◌≡◌, ◌&&◌, is_some};
-ghost use Rattle.pv_rules.specs.Items as items;
+ghost use Rattle.pv_ast.specs.Rules.Items as items;
 ghost use Rattle.pv_shapes.specs.Seen.{uses_as, form_as, facts_as};
 
 use pv_ast::{Operator, Token};
@@ -178,8 +178,8 @@ impl Facts {
     }
 
     /// Of an expression of one part, which shows these.
-    pub(crate) fn around(self) -> Facts
-        ensures { facts_as result ≡ items.facts_around (facts_as self) }
+    pub(crate) fn environment(self) -> Facts
+        ensures { facts_as result ≡ items.facts_in_environment (facts_as self) }
     {
         Facts {
             uses: self.uses,

@@ -1,8 +1,8 @@
 ghost use Rattle.std.specs.Prelude.{◌≡◌, ◌↔◌, Option, Some, None, List, []};
-ghost use Rattle.pv_rules.specs.Shapes as shapes;
-ghost use Rattle.pv_rules.specs.declared.fault.ShapeFault.{ShapeFault as Fault};
+ghost use Rattle.pv_ast.specs.Rules.Shapes as shapes;
+ghost use Rattle.pv_ast.specs.declared.fault.ShapeFault.{ShapeFault as Fault};
 
-use pv_rules::ShapeFault;
+use pv_ast::ShapeFault;
 
 fn start_of(fault: ShapeFault) -> u32
     ensures { result ≡ shapes.start_of fault }

@@ -1,15 +1,14 @@
 ghost use Rattle.std.specs.Prelude.{◌≡◌, is_some, Option};
-ghost use Rattle.pv_rules.specs.Items as items;
-ghost use Rattle.pv_rules.specs.Shapes as shapes;
+ghost use Rattle.pv_ast.specs.Rules.Items as items;
+ghost use Rattle.pv_ast.specs.Rules.Shapes as shapes;
 ghost use Rattle.pv_shapes.specs.Seen.{facts_as, whole_as};
 
 use crate::facts::{Facts, Form, has_variable_and_term, is_token_item};
 use crate::firsts::earlier;
 use crate::quantifiers::quantifier_in;
 use crate::uses::{uses_in_any, uses_in_each, uses_in_option};
-use pv_ast::{Each, Expr, ExprKind, Operator, Token};
+use pv_ast::{Each, Expr, ExprKind, Operator, ShapeFault, Token};
 use pv_base::{Name, Span};
-use pv_rules::ShapeFault;
 
 /// What holds the parts that must be items: the body of a `\forall*`, the body of a `\forall`, or a clause of a block, a loop
 /// or a barrier, or a message.
@@ -120,7 +119,7 @@ fn look_in(kind: &ExprKind, name: Name) -> Seen
         }
         ExprKind::Var(word) => Seen::of(Facts::of_variable(word.name.0 == name.0)),
         ExprKind::Field(e, _) | ExprKind::Not(e) | ExprKind::Minus(e) | ExprKind::Old(e) => {
-            Seen::of(look(e.get(), name).facts.around())
+            Seen::of(look(e.get(), name).facts.environment())
         }
         ExprKind::Index(array, index) => {
             let array = look(array.get(), name).facts;

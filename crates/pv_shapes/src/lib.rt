@@ -14,14 +14,14 @@ mod uses;
 
 ghost use Rattle.std.specs.Prelude.{◌≡◌, ◌↔◌, ◌++◌, Some, [], IsOk, IfErr};
 ghost use Rattle.std.specs.List.{flat_map};
-ghost use Rattle.pv_rules.specs.Shapes as shapes;
+ghost use Rattle.pv_ast.specs.Rules.Shapes as shapes;
 
 use firsts::earlier;
 pub use firsts::first_starts_first;
 use formulas::fault_of_formula;
-pub use parts::items_have_parts;
+pub use parts::{items_have_parts, parts_make_items};
+pub use pv_ast::ShapeFault;
 use pv_ast::{Class, Contract, Expr, Member, Program, Stmt};
-pub use pv_rules::ShapeFault;
 use statements::{Inside, fault_of_block, fault_of_contract};
 
 /// Whether a program has no fault of shape: each quantifier stands where it may, and its body and each clause of a block, a

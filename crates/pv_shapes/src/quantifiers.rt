@@ -1,11 +1,10 @@
 ghost use Rattle.std.specs.Prelude.{◌≡◌, option_map};
-ghost use Rattle.pv_rules.specs.Items as items;
-ghost use Rattle.pv_rules.specs.Shapes as shapes;
+ghost use Rattle.pv_ast.specs.Rules.Items as items;
+ghost use Rattle.pv_ast.specs.Rules.Shapes as shapes;
 
 use crate::firsts::earlier;
-use pv_ast::{Expr, ExprKind};
+use pv_ast::{Expr, ExprKind, ShapeFault};
 use pv_base::Span;
-use pv_rules::ShapeFault;
 use sqlite_items::Boxed;
 
 /// The first quantifier in an expression in which none may stand.

@@ -1,6 +1,6 @@
 ghost use Rattle.std.specs.Prelude.{◌≡◌, ◌++◌, Some};
-ghost use Rattle.pv_rules.specs.Shapes as shapes;
-ghost use Rattle.pv_shapes.specs.Seen.{around_as, name_as};
+ghost use Rattle.pv_ast.specs.Rules.Shapes as shapes;
+ghost use Rattle.pv_shapes.specs.Seen.{environment_as, name_as};
 
 use crate::expressions::{
     quantifier_in_call, quantifier_in_first_value, quantifier_in_option, quantifier_in_range,
@@ -9,9 +9,8 @@ use crate::expressions::{
 use crate::firsts::earlier;
 use crate::formulas::{Whole, fault_of_formula, fault_of_parts};
 use crate::quantifiers::quantifier_in;
-use pv_ast::{Contract, Expr, Range, Stmt, StmtKind};
+use pv_ast::{Contract, Expr, Range, ShapeFault, Stmt, StmtKind};
 use pv_base::Name;
-use pv_rules::ShapeFault;
 
 /// The loop variables of the innermost par block and of the innermost counted loop round a statement.
 #[derive(Clone, Copy, Drop)]
@@ -23,7 +22,7 @@ pub(crate) struct Inside {
 impl Inside {
     /// Round the statements of a par block with this loop variable.
     fn block_of(self, name: Name) -> Inside
-        ensures { around_as result ≡ record (around_as self) { block = Some name.0 } }
+        ensures { environment_as result ≡ record (environment_as self) { block = Some name.0 } }
     {
         Inside {
             block: Some(name),
@@ -33,7 +32,7 @@ impl Inside {
 
     /// Round the statements of a counted loop with this loop variable.
     fn counted_by(self, name: Name) -> Inside
-        ensures { around_as result ≡ record (around_as self) { loop = Some name.0 } }
+        ensures { environment_as result ≡ record (environment_as self) { loop = Some name.0 } }
     {
         Inside {
             block: self.block,
@@ -45,7 +44,7 @@ impl Inside {
 /// The first fault of the statements of a block.
 #[cycle(statements)]
 pub(crate) fn fault_of_block(block: &[Stmt], inside: Inside) -> Option<ShapeFault>
-    ensures { result ≡ shapes.first_of (shapes.faults_of_block block.now (around_as inside)) }
+    ensures { result ≡ shapes.first_of (shapes.faults_of_block block.now (environment_as inside)) }
 {
     let mut first = None;
     for statement in block {
@@ -56,14 +55,14 @@ pub(crate) fn fault_of_block(block: &[Stmt], inside: Inside) -> Option<ShapeFaul
 
 #[cycle(statements)]
 fn fault_of_statement(statement: &Stmt, inside: Inside) -> Option<ShapeFault>
-    ensures { result ≡ shapes.first_of (shapes.faults_of_stmt statement.now (around_as inside)) }
+    ensures { result ≡ shapes.first_of (shapes.faults_of_stmt statement.now (environment_as inside)) }
 {
     fault_of_kind(&statement.kind, inside)
 }
 
 #[cycle(statements)]
 fn fault_of_kind(kind: &StmtKind, inside: Inside) -> Option<ShapeFault>
-    ensures { result ≡ shapes.first_of (shapes.faults_of_stmt_kind kind.now (around_as inside)) }
+    ensures { result ≡ shapes.first_of (shapes.faults_of_stmt_kind kind.now (environment_as inside)) }
 {
     match kind {
         StmtKind::Local(_, _, value) => quantifier_in_first_value(value),

@@ -1,6 +1,6 @@
 ghost use Rattle.std.specs.Prelude.{◌≡◌, ◌||◌, map, option_map};
 ghost use Rattle.std.specs.List.{list_any};
-ghost use Rattle.pv_rules.specs.Items as items;
+ghost use Rattle.pv_ast.specs.Rules.Items as items;
 
 use pv_ast::{Each, Expr, ExprKind};
 use pv_base::Name;

@@ -3,5 +3,7 @@ pub mod Comments
 pub mod PieceLaws
 pub mod PieceSizes
 pub mod Decimals
+pub mod NameLaws
 pub mod ProgressLaws
 pub mod LexemeLaws
+pub mod Endings

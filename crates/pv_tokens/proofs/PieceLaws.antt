@@ -10,6 +10,7 @@ use Rattle.pv_tokens.specs.declared.bytes.Class.{Class}
 use Rattle.pv_tokens.specs.declared.bytes.Class.TheVariants.{Space, Letter, Digit, Slash, At, Backslash, Other}
 use Rattle.pv_tokens.specs.declared.pieces.Piece.{Piece}
 use Rattle.pv_tokens.specs.declared.pieces.Piece.TheVariants.{Blank, Word, Number, Fixed, OpenComment, Nothing}
+use Rattle.pv_tokens.specs.declared.fixed.TheConstants.{FORALL, FORALL_STAR, IMPLIES}
 use Rattle.pv_tokens.specs.Bytes.{is_space, is_letter, is_digit, class_of}
 use Rattle.pv_tokens.specs.Words.{reserved, symbols}
 use Rattle.pv_tokens.specs.Pieces.{slash, star, at_sign, backslash, word_len, word_of, starts, Closes, closes, inside, Begins, space, line_annotation, block_annotation, annotation_end, line_comment, block_comment, reserved_word, other_word, number, result_word, old_word, forall_word, forall_star, symbol, backslash_alone, IsOpen, opened}
@@ -23,7 +24,8 @@ comment_len_is _ _ (closes {b} {bs} h) = ap (λ t. cond t (Some 2) (option_map s
 comment_len_is _ _ (inside {b} {bs} {n} h c) =
     ap (λ t. cond t (Some 2) (option_map suc (comment_len bs))) h ∙ ap (λ o. option_map suc o) (comment_len_is bs n c)
 
-closes_after : (b : ℕ) (bs : List ℕ) (o : Option ℕ) (n : ℕ) → starts (b ∷ bs) (codes "*/") ≡ false → option_map suc o ≡ Some n → ((m : ℕ) → o ≡ Some m → Closes bs m) → Closes (b ∷ bs) n
+closes_after : (b : ℕ) (bs : List ℕ) (o : Option ℕ) (n : ℕ) → starts (b ∷ bs) (codes "*/") ≡ false → option_map suc o ≡ Some n
+    → ((m : ℕ) → o ≡ Some m → Closes bs m) → Closes (b ∷ bs) n
 closes_after b bs None n h e behind = absurd cc
 closes_after b bs (Some m) n h e behind =
     let is : suc m ≡ n = cc in
@@ -37,7 +39,8 @@ closes_from (b ∷ bs) n e =
           let two : Some 2 ≡ Some n = sym (ap (λ t. cond t (Some 2) (option_map suc (comment_len bs))) h) ∙ e in
           let is : 2 ≡ n = cc in
           subst (Closes (b ∷ bs)) is (closes h)
-      | inr h ↦ closes_after b bs (comment_len bs) n h (sym (ap (λ t. cond t (Some 2) (option_map suc (comment_len bs))) h) ∙ e) (λ m f. closes_from bs m f)
+      | inr h ↦ closes_after b bs (comment_len bs) n h (sym (ap (λ t. cond t (Some 2) (option_map suc (comment_len bs))) h) ∙ e)
+          (λ m f. closes_from bs m f)
     ]
 
 -- ---- what the bytes begin with is computed
@@ -55,10 +58,13 @@ piece_is _ _ (other_word {b} {bs} h e) = ap (λ k. piece_by k (b ∷ bs)) h ∙ 
 piece_is _ _ (number {b} {bs} h) = ap (λ k. piece_by k (b ∷ bs)) h
 piece_is _ _ (result_word {bs} e) = ap (λ w. backslash_by w (backslash ∷ bs)) e
 piece_is _ _ (old_word {bs} e) = ap (λ w. backslash_by w (backslash ∷ bs)) e
-piece_is _ _ (forall_word {bs} e h) = ap (λ w. backslash_by w (backslash ∷ bs)) e ∙ ap (λ t. cond t (Fixed 45 8) (Fixed 44 7)) h
-piece_is _ _ (forall_star {bs} e h) = ap (λ w. backslash_by w (backslash ∷ bs)) e ∙ ap (λ t. cond t (Fixed 45 8) (Fixed 44 7)) h
+piece_is _ _ (forall_word {bs} e h) =
+    ap (λ w. backslash_by w (backslash ∷ bs)) e ∙ ap (λ t. cond t (Fixed FORALL_STAR 8) (Fixed FORALL 7)) h
+piece_is _ _ (forall_star {bs} e h) =
+    ap (λ w. backslash_by w (backslash ∷ bs)) e ∙ ap (λ t. cond t (Fixed FORALL_STAR 8) (Fixed FORALL 7)) h
 piece_is _ _ (symbol {b} {bs} {text} {k} h l) =
-    ap (λ k. piece_by k (b ∷ bs)) h ∙ ap symbol_or_nothing (longest_is_first (b ∷ bs) k text l) ∙ ap (λ t. Fixed (46 + k) (length t)) (get_or_from_slice_get symbols k text [] l.at)
+    ap (λ k. piece_by k (b ∷ bs)) h ∙ ap symbol_or_nothing (longest_is_first (b ∷ bs) k text l)
+    ∙ ap (λ t. Fixed (IMPLIES + k) (length t)) (get_or_from_slice_get symbols k text [] l.at)
 piece_is _ _ (backslash_alone {bs} p) = rw (p.no_result, p.no_old, p.no_forall) refl
 
 pub open_is : (bytes : List ℕ) → IsOpen bytes → piece_of bytes ≡ OpenComment
@@ -80,7 +86,8 @@ Means bytes (Number n) = Begins bytes (Number n)
 Means bytes (Fixed k n) = Begins bytes (Fixed k n)
 
 -- a byte of a class of one byte
-slash_test : (s l d x y z : Bool) → cond s Space (cond l Letter (cond d Digit (cond x Slash (cond y At (cond z Backslash Other))))) ≡ Slash → x ≡ true
+slash_test : (s l d x y z : Bool)
+    → cond s Space (cond l Letter (cond d Digit (cond x Slash (cond y At (cond z Backslash Other))))) ≡ Slash → x ≡ true
 slash_test true l d x y z e = absurd cc
 slash_test false true d x y z e = absurd cc
 slash_test false false true x y z e = absurd cc
@@ -89,7 +96,8 @@ slash_test false false false false true z e = absurd cc
 slash_test false false false false false true e = absurd cc
 slash_test false false false false false false e = absurd cc
 
-at_test : (s l d x y z : Bool) → cond s Space (cond l Letter (cond d Digit (cond x Slash (cond y At (cond z Backslash Other))))) ≡ At → y ≡ true
+at_test : (s l d x y z : Bool)
+    → cond s Space (cond l Letter (cond d Digit (cond x Slash (cond y At (cond z Backslash Other))))) ≡ At → y ≡ true
 at_test true l d x y z e = absurd cc
 at_test false true d x y z e = absurd cc
 at_test false false true x y z e = absurd cc
@@ -98,7 +106,8 @@ at_test false false false false true z e = refl
 at_test false false false false false true e = absurd cc
 at_test false false false false false false e = absurd cc
 
-backslash_test : (s l d x y z : Bool) → cond s Space (cond l Letter (cond d Digit (cond x Slash (cond y At (cond z Backslash Other))))) ≡ Backslash → z ≡ true
+backslash_test : (s l d x y z : Bool)
+    → cond s Space (cond l Letter (cond d Digit (cond x Slash (cond y At (cond z Backslash Other))))) ≡ Backslash → z ≡ true
 backslash_test true l d x y z e = absurd cc
 backslash_test false true d x y z e = absurd cc
 backslash_test false false true x y z e = absurd cc
@@ -153,13 +162,15 @@ word_means : (b : ℕ) (bs : List ℕ) → class_of b ≡ Letter → Means (b �
 unfolding word_piece
 word_means b bs h = by (position (pointwise nat_eq (word_of (b ∷ bs))) reserved) refl
   where
-    by : (o : Option ℕ) → position (pointwise nat_eq (word_of (b ∷ bs))) reserved ≡ o → Means (b ∷ bs) (word_or_fixed (word_len (b ∷ bs)) o)
+    by : (o : Option ℕ) → position (pointwise nat_eq (word_of (b ∷ bs))) reserved ≡ o
+        → Means (b ∷ bs) (word_or_fixed (word_len (b ∷ bs)) o)
     by None e = other_word h e
     by (Some k) e = reserved_word h e
 
 forall_means : (bs : List ℕ) → word_of bs ≡ codes "forall" → Means (backslash ∷ bs) (forall_piece (backslash ∷ bs))
 unfolding forall_piece
-forall_means bs e = elim (cases_Bool (starts (drop 6 bs) (codes "*"))) [ inl h ↦ rw h (forall_star e h) | inr h ↦ rw h (forall_word e h) ]
+forall_means bs e =
+    elim (cases_Bool (starts (drop 6 bs) (codes "*"))) [ inl h ↦ rw h (forall_star e h) | inr h ↦ rw h (forall_word e h) ]
 
 backslash_means : (bs : List ℕ) → Means (backslash ∷ bs) (backslash_piece (backslash ∷ bs))
 unfolding backslash_piece

@@ -25,7 +25,8 @@ closes_len : (bs : List ℕ) (n : ℕ) → Closes bs n → n ≤ length bs
 closes_len _ _ (closes {b} {bs} h) = starts_len (b ∷ bs) (codes "*/") h
 closes_len _ _ (inside {b} {bs} {n} h c) = let k = closes_len bs n c in omega arith
 
-letter_test : (s l d x y z : Bool) → cond s Space (cond l Letter (cond d Digit (cond x Slash (cond y At (cond z Backslash Other))))) ≡ Letter → l ≡ true
+letter_test : (s l d x y z : Bool)
+    → cond s Space (cond l Letter (cond d Digit (cond x Slash (cond y At (cond z Backslash Other))))) ≡ Letter → l ≡ true
 letter_test true l d x y z e = absurd cc
 letter_test false true d x y z e = refl
 letter_test false false true x y z e = absurd cc
@@ -34,7 +35,8 @@ letter_test false false false false true z e = absurd cc
 letter_test false false false false false true e = absurd cc
 letter_test false false false false false false e = absurd cc
 
-digit_test : (s l d x y z : Bool) → cond s Space (cond l Letter (cond d Digit (cond x Slash (cond y At (cond z Backslash Other))))) ≡ Digit → d ≡ true
+digit_test : (s l d x y z : Bool)
+    → cond s Space (cond l Letter (cond d Digit (cond x Slash (cond y At (cond z Backslash Other))))) ≡ Digit → d ≡ true
 digit_test true l d x y z e = absurd cc
 digit_test false true d x y z e = absurd cc
 digit_test false false true x y z e = refl
@@ -45,13 +47,15 @@ digit_test false false false false false false e = absurd cc
 
 letter_byte : (b : ℕ) → class_of b ≡ Letter → is_word_byte b ≡ true
 unfolding class_of
-letter_byte b e = ap (λ t. t || is_digit b) (letter_test (is_space b) (is_letter b) (is_digit b) (eqb b 47) (eqb b 64) (eqb b 92) e)
+letter_byte b e =
+    ap (λ t. t || is_digit b) (letter_test (is_space b) (is_letter b) (is_digit b) (eqb b 47) (eqb b 64) (eqb b 92) e)
 
 digit_byte : (b : ℕ) → class_of b ≡ Digit → is_digit b ≡ true
 unfolding class_of
 digit_byte b e = digit_test (is_space b) (is_letter b) (is_digit b) (eqb b 47) (eqb b 64) (eqb b 92) e
 
-first_passes : (p : ℕ → Bool) (b : ℕ) (bs : List ℕ) → p b ≡ true → (0 < prefix_len p (b ∷ bs)) × (prefix_len p (b ∷ bs) ≤ length (b ∷ bs))
+first_passes : (p : ℕ → Bool) (b : ℕ) (bs : List ℕ) → p b ≡ true
+    → (0 < prefix_len p (b ∷ bs)) × (prefix_len p (b ∷ bs) ≤ length (b ∷ bs))
 first_passes p b bs h =
     let is : prefix_len p (b ∷ bs) ≡ 1 + prefix_len p bs = ap (λ t. cond t (1 + prefix_len p bs) 0) h in
     (omega arith, prefix_len-le-length p (b ∷ bs))
@@ -62,7 +66,9 @@ word_fits bs text e = omega (arith, ap (λ (xs : List ℕ). length xs) e, length
 symbol_fits : (bytes text : List ℕ) (k : ℕ) → IsLongest bytes k text → (0 < length text) × (length text ≤ length bytes)
 symbol_fits bytes text k l =
     let is : get_or symbols k [] ≡ text = get_or_from_slice_get symbols k text [] l.at in
-    let some = ltb-true 0 (length (get_or symbols k [])) (all_at (λ s. ltb 0 (length s)) symbols k refl (slice_get_within symbols k text l.at)) in
+    let some =
+    ltb-true 0 (length (get_or symbols k [])) (all_at (λ s. ltb 0 (length s)) symbols k refl
+    (slice_get_within symbols k text l.at)) in
     (subst (λ (t : List ℕ). 0 < length t) is some, starts_len bytes text l.starts_with_it)
 
 pub piece_fits : (bytes : List ℕ) (p : Piece) → Begins bytes p → FitsIn (length bytes) p
@@ -116,12 +122,15 @@ rest_is : (text : List ℕ) (at : ℕ) → take (length text - at) (drop at text
 rest_is text at = ap (λ (n : ℕ). take n (drop at text)) (sym (length-drop at text)) ∙ take-length (drop at text)
 
 -- what stands at a place of a text
-pub shows_at : (text : List ℕ) (at : ℕ) (p : Piece) → at < length text → p ≡ piece_of (take (length text - at) (drop at text)) → Shows (drop at text) p
+pub shows_at : (text : List ℕ) (at : ℕ) (p : Piece) → at < length text → p ≡ piece_of (take (length text - at) (drop at text))
+    → Shows (drop at text) p
 shows_at text at p lt e =
     let some : drop at text ≡ [] → ⊥ = λ h. omega (arith, length-drop at text, ap (λ (xs : List ℕ). length xs) h) in
     subst (Shows (drop at text)) (sym (e ∙ ap piece_of (rest_is text at))) (piece_shows (drop at text) some)
 
-pub fits_at : (text : List ℕ) (at : ℕ) (p : Piece) → p ≡ piece_of (take (length text - at) (drop at text)) → FitsIn (length text - at) p
+pub fits_at : (text : List ℕ) (at : ℕ) (p : Piece) → p ≡ piece_of (take (length text - at) (drop at text))
+    → FitsIn (length text - at) p
 fits_at text at p e =
     let fits = fits_of (drop at text) (piece_of (drop at text)) (piece_means (drop at text)) in
-    subst (λ (n : ℕ). FitsIn n p) (length-drop at text) (subst (FitsIn (length (drop at text))) (sym (e ∙ ap piece_of (rest_is text at))) fits)
+    subst (λ (n : ℕ). FitsIn n p) (length-drop at text)
+    (subst (FitsIn (length (drop at text))) (sym (e ∙ ap piece_of (rest_is text at))) fits)

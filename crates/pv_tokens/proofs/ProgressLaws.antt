@@ -34,7 +34,9 @@ target : List ℕ → Progress → Piece → Progress
 target text s (Blank n) = progress (s.at + n) s.names s.lexemes
 target text s (Fixed k n) = with_token s (kind.Fixed k) n s.names
 target text s (Number n) = with_token s (kind.Number (decimal (take n (left text s)))) n s.names
-target text s (Word n) = with_token s (kind.Named (record { 0 = number_of s.names (take n (left text s)) })) n (with_text s.names (take n (left text s)))
+target text s (Word n) =
+    with_token s (kind.Named (record { 0 = number_of s.names (take n (left text s)) })) n
+    (with_text s.names (take n (left text s)))
 target text s OpenComment = s
 target text s Nothing = s
 
@@ -69,9 +71,12 @@ foreign_is bytes f = by (piece_of bytes) refl (piece_means bytes)
 
 stops_halts : (text : List ℕ) (s : Progress) (e : TokenFault) → Stops text s e → Halts text s (piece_of (left text s)) e
 unfolding Halts
-stops_halts text _ _ (p.bad_byte {s} f) = subst (λ (q : Piece). Halts text s q (fault.BadByte s.at)) (sym (foreign_is _ f)) (f.some, refl)
-stops_halts text _ _ (p.open_comment {s} o) = subst (λ (q : Piece). Halts text s q (fault.OpenComment s.at)) (sym (open_is _ o)) refl
-stops_halts text _ _ (p.bad_number {s} {n} b h) = subst (λ (q : Piece). Halts text s q (fault.BadNumber s.at)) (sym (piece_is _ _ b)) (h, refl)
+stops_halts text _ _ (p.bad_byte {s} f) =
+    subst (λ (q : Piece). Halts text s q (fault.BadByte s.at)) (sym (foreign_is _ f)) (f.some, refl)
+stops_halts text _ _ (p.open_comment {s} o) =
+    subst (λ (q : Piece). Halts text s q (fault.OpenComment s.at)) (sym (open_is _ o)) refl
+stops_halts text _ _ (p.bad_number {s} {n} b h) =
+    subst (λ (q : Piece). Halts text s q (fault.BadNumber s.at)) (sym (piece_is _ _ b)) (h, refl)
 stops_halts text _ _ (p.full {s} {n} b h) = subst (λ (q : Piece). Halts text s q fault.Full) (sym (piece_is _ _ b)) (h, refl)
 
 goes_or_halts : (text : List ℕ) (s : Progress) (q : Piece) (e : TokenFault) → Goes text s q → Halts text s q e → ⊥
@@ -114,20 +119,23 @@ no_halt_at_end text s e n h =
 
 ends_stay : (text : List ℕ) (s t : Progress) (o : Option TokenFault) → Ends text s o → Step text s t → ⊥
 ends_stay text s t None e h = no_goes_at_end text s (nothing_left text s e) (step_moves text s t h).0
-ends_stay text s t (Some f) e h = goes_or_halts text s (piece_of (left text s)) f (step_moves text s t h).0 (stops_halts text s f e)
+ends_stay text s t (Some f) e h =
+    goes_or_halts text s (piece_of (left text s)) f (step_moves text s t h).0 (stops_halts text s f e)
 
 same_end : (text : List ℕ) (s : Progress) (o r : Option TokenFault) → Ends text s o → Ends text s r → o ≡ r
 same_end text s None None e f = refl
 same_end text s None (Some y) e f = absurd (no_halt_at_end text s y (nothing_left text s e) (stops_halts text s y f))
 same_end text s (Some x) None e f = absurd (no_halt_at_end text s x (nothing_left text s f) (stops_halts text s x e))
 same_end text s (Some x) (Some y) e f =
-    ap (λ (z : TokenFault). Some z) (halts_once text s (piece_of (left text s)) x y (stops_halts text s x e) (stops_halts text s y f))
+    ap (λ (z : TokenFault). Some z) (halts_once text s (piece_of (left text s)) x y (stops_halts text s x e)
+    (stops_halts text s y f))
 
 same_step : (text : List ℕ) (s t u : Progress) → Step text s t → Step text s u → t ≡ u
 same_step text s t u h k = (step_moves text s t h).1 ∙ sym ((step_moves text s u k).1)
 
 -- reading from one progress ends in one way
-meet : (text : List ℕ) (s t u : Progress) (o r : Option TokenFault) → Steps text s t → Ends text t o → Steps text s u → Ends text u r → (t ≡ u) × (o ≡ r)
+meet : (text : List ℕ) (s t u : Progress) (o r : Option TokenFault) → Steps text s t → Ends text t o → Steps text s u
+    → Ends text u r → (t ≡ u) × (o ≡ r)
 meet text s _ _ o r p.here a p.here b = (refl, same_end text s o r a b)
 meet text s _ u o r p.here a (p.next {t = v} h k) b = absurd (ends_stay text s v o a h)
 meet text s t _ o r (p.next {t = v} h k) a p.here b = absurd (ends_stay text s v r b h)
@@ -141,12 +149,14 @@ further text s t u (p.next {t = v} k l) h = p.next k (further text v t u l h)
 
 -- ---- the laws of whole texts
 
-pub one_reading : (text : List ℕ) (names : List (List ℕ)) (xs ys : List Lexeme) (after other : List (List ℕ)) → IsTokens text names xs after → IsTokens text names ys other → (xs ≡ ys) × (after ≡ other)
+pub one_reading : (text : List ℕ) (names : List (List ℕ)) (xs ys : List Lexeme) (after other : List (List ℕ))
+    → IsTokens text names xs after → IsTokens text names ys other → (xs ≡ ys) × (after ≡ other)
 one_reading text names xs ys after other h k =
     let m = meet text _ _ _ None None h refl k refl in
     (ap (λ (s : Progress). s.lexemes) m.0, ap (λ (s : Progress). s.names) m.0)
 
-pub no_tokens : (text : List ℕ) (names : List (List ℕ)) (e : TokenFault) (xs : List Lexeme) (after : List (List ℕ)) → IsFault text names e → IsTokens text names xs after → ⊥
+pub no_tokens : (text : List ℕ) (names : List (List ℕ)) (e : TokenFault) (xs : List Lexeme) (after : List (List ℕ))
+    → IsFault text names e → IsTokens text names xs after → ⊥
 no_tokens text names e xs after f k =
     let m = meet text _ _ _ (Some e) None f.1 f.2 k refl in
     let bad = m.1 in
@@ -167,35 +177,47 @@ memory_or_not fault.NoMemory = inl refl
 
 -- ---- the steps of the code
 
-pub with_put : (text : List ℕ) (s : Progress) (k : LexemeKind) (n to : ℕ) (names : List (List ℕ)) (xs : List Lexeme) → Step text s (with_token s k n names)
-    → to ≡ s.at + n → xs ≡ s.lexemes ++ record { kind = k; span = record { from = s.at; to = s.at + n } } ∷ [] → Step text s (progress to names xs)
+pub with_put : (text : List ℕ) (s : Progress) (k : LexemeKind) (n to : ℕ) (names : List (List ℕ)) (xs : List Lexeme)
+    → Step text s (with_token s k n names)
+    → to ≡ s.at + n → xs ≡ s.lexemes ++ record { kind = k; span = record { from = s.at; to = s.at + n } } ∷ []
+    → Step text s (progress to names xs)
 with_put text s k n to names xs h e f =
-    subst (λ (m : ℕ). Step text s (progress m names xs)) (sym e) (subst (λ (ys : List Lexeme). Step text s (progress (s.at + n) names ys)) (sym f) h)
+    subst (λ (m : ℕ). Step text s (progress m names xs)) (sym e)
+    (subst (λ (ys : List Lexeme). Step text s (progress (s.at + n) names ys)) (sym f) h)
 
-pub number_step : (text : List ℕ) (s : Progress) (n value : ℕ) (digits : List ℕ) → Begins (left text s) (Number n) → digits ≡ take n (left text s)
+pub number_step : (text : List ℕ) (s : Progress) (n value : ℕ) (digits : List ℕ) → Begins (left text s) (Number n)
+    → digits ≡ take n (left text s)
     → value ≡ decimal digits → value ≤ most → Step text s (with_token s (kind.Number value) n s.names)
 number_step text s n value digits b d v le =
     let is : value ≡ decimal (take n (left text s)) = v ∙ ap (λ (xs : List ℕ). decimal xs) d in
     subst (λ (m : ℕ). Step text s (with_token s (kind.Number m) n s.names)) (sym is) (p.number {s = s} b (omega arith))
 
-pub number_stops : (text : List ℕ) (s : Progress) (n : ℕ) (digits : List ℕ) → Begins (left text s) (Number n) → digits ≡ take n (left text s)
+pub number_stops : (text : List ℕ) (s : Progress) (n : ℕ) (digits : List ℕ) → Begins (left text s) (Number n)
+    → digits ≡ take n (left text s)
     → most < decimal digits → Stops text s (fault.BadNumber s.at)
 number_stops text s n digits b d over =
     let is : decimal digits ≡ decimal (take n (left text s)) = ap (λ (xs : List ℕ). decimal xs) d in
     p.bad_number {s = s} b (omega arith)
 
-pub name_step : (text : List ℕ) (s : Progress) (n : ℕ) (name : Name) (names : List (List ℕ)) (word : List ℕ) → Begins (left text s) (Word n) → word ≡ take n (left text s)
-    → name.0 ≡ number_of s.names word → names ≡ with_text s.names word → ((place_of s.names word ≡ None) × (length s.names ≡ most_names) → ⊥)
+pub name_step : (text : List ℕ) (s : Progress) (n : ℕ) (name : Name) (names : List (List ℕ)) (word : List ℕ)
+    → Begins (left text s) (Word n) → word ≡ take n (left text s)
+    → name.0 ≡ number_of s.names word → names ≡ with_text s.names word
+    → ((place_of s.names word ≡ None) × (length s.names ≡ most_names) → ⊥)
     → Step text s (with_token s (kind.Named name) n names)
 name_step text s n name names word b w e f room =
     let at_word : Step text s (with_token s (kind.Named (record { 0 = number_of s.names word })) n (with_text s.names word)) =
-    subst (λ (v : List ℕ). Step text s (with_token s (kind.Named (record { 0 = number_of s.names v })) n (with_text s.names v))) (sym w)
-    (p.name {s = s} b (λ full. room (subst (λ (v : List ℕ). (place_of s.names v ≡ None) × (length s.names ≡ most_names)) (sym w) (full.new, full.count)))) in
+    subst (λ (v : List ℕ). Step text s (with_token s (kind.Named (record { 0 = number_of s.names v })) n (with_text s.names v)))
+    (sym w)
+    (p.name {s = s} b (λ full. room (subst (λ (v : List ℕ). (place_of s.names v ≡ None) × (length s.names ≡ most_names)) (sym w)
+    (full.new, full.count)))) in
     subst (λ (m : ℕ). Step text s (with_token s (kind.Named (record { 0 = m })) n names)) (sym e)
-    (subst (λ (ns : List (List ℕ)). Step text s (with_token s (kind.Named (record { 0 = number_of s.names word })) n ns)) (sym f) at_word)
+    (subst (λ (ns : List (List ℕ)). Step text s (with_token s (kind.Named (record { 0 = number_of s.names word })) n ns))
+    (sym f) at_word)
 
-pub name_stops : (text : List ℕ) (s : Progress) (n : ℕ) (word : List ℕ) (f : NamesFault) (e : TokenFault) → Begins (left text s) (Word n) → word ≡ take n (left text s)
-    → IsSameFault f e → (f ≡ names_fault.Full → (place_of s.names word ≡ None) × (length s.names ≡ most_names)) → e ≢ fault.NoMemory → Stops text s e
+pub name_stops : (text : List ℕ) (s : Progress) (n : ℕ) (word : List ℕ) (f : NamesFault) (e : TokenFault)
+    → Begins (left text s) (Word n) → word ≡ take n (left text s)
+    → IsSameFault f e → (f ≡ names_fault.Full → (place_of s.names word ≡ None) × (length s.names ≡ most_names))
+    → e ≢ fault.NoMemory → Stops text s e
 name_stops text s n word names_fault.Full e b w same full other =
     let h = subst (λ (v : List ℕ). (place_of s.names v ≡ None) × (length s.names ≡ most_names)) w (full refl) in
     subst (Stops text s) (sym same) (p.full {s = s} b (record { new = h.0; count = h.1 }))
@@ -203,7 +225,8 @@ name_stops text s n word names_fault.NoMemory e b w same full other = absurd (ot
 
 -- ---- an error of the code is a fault, or want of memory
 
-pub must_be_memory : (text : List ℕ) (names : List (List ℕ)) (e : TokenFault) (xs : List Lexeme) (after : List (List ℕ)) → (e ≢ fault.NoMemory → IsFault text names e)
+pub must_be_memory : (text : List ℕ) (names : List (List ℕ)) (e : TokenFault) (xs : List Lexeme) (after : List (List ℕ))
+    → (e ≢ fault.NoMemory → IsFault text names e)
     → IsTokens text names xs after → e ≡ fault.NoMemory
 must_be_memory text names e xs after h k =
     elim (memory_or_not e) [ inl m ↦ m | inr other ↦ absurd (no_tokens text names e xs after (h other) k) ]

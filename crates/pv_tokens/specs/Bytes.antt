@@ -1,5 +1,5 @@
--- The kinds of bytes, the words and the symbols, each in the order of its number.
-use Rattle.std.specs.Prelude.{ℕ, ◌+◌, ◌-◌, ◌*◌, Bool, ◌||◌, ◌&&◌, ◌==◌, not, nat_le, List, if◌then◌else◌, fold}
+-- The kinds of bytes, and how long a text and how great a number may be.
+use Rattle.std.specs.Prelude.{ℕ, ◌+◌, ◌^◌, ◌-◌, ◌*◌, Bool, ◌||◌, ◌&&◌, ◌==◌, not, nat_le, List, if◌then◌else◌, fold}
 use Rattle.pv_tokens.specs.declared.bytes.Class.{Class}
 use Rattle.pv_tokens.specs.declared.bytes.Class.TheVariants.{Space, Letter, Digit, Slash, At, Backslash, Other}
 
@@ -35,3 +35,7 @@ decimal digits = fold (λ n b. 10 * n + (b - 48)) 0 digits
 -- the greatest number that a text may have
 abbrev pub most : ℕ
 most = 9223372036854775807
+
+-- how many bytes a text may have
+abbrev pub most_bytes : ℕ
+most_bytes = 2 ^ 20

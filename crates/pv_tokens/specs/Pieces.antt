@@ -5,6 +5,7 @@ use Rattle.std.specs.Cmp.Lexicographic.{pointwise}
 use Rattle.pv_tokens.specs.declared.bytes.Class.TheVariants.{Space, Letter, Digit, Other}
 use Rattle.pv_tokens.specs.declared.pieces.Piece.{Piece}
 use Rattle.pv_tokens.specs.declared.pieces.Piece.TheVariants.{Blank, Word, Number, Fixed, OpenComment, Nothing}
+use Rattle.pv_tokens.specs.declared.fixed.TheConstants.{RESULT, OLD, FORALL, FORALL_STAR, IMPLIES, BACKSLASH}
 use Rattle.pv_tokens.specs.Bytes.{is_word_byte, is_digit, is_in_line, class_of}
 use Rattle.pv_tokens.specs.Words.{reserved, symbols}
 
@@ -39,7 +40,8 @@ pub data Closes : List ℕ → ℕ → Type 0 where
 pub record IsLongest (bytes : List ℕ) (k : ℕ) (text : List ℕ) : Type 0 where
   pub at : slice_get symbols k ≡ Some text
   pub starts_with_it : starts bytes text ≡ true
-  pub no_longer : (j : ℕ) (other : List ℕ) → slice_get symbols j ≡ Some other → starts bytes other ≡ true → length other ≤ length text
+  pub no_longer : (j : ℕ) (other : List ℕ) → slice_get symbols j ≡ Some other → starts bytes other ≡ true
+      → length other ≤ length text
 
 -- the word has no number of its own behind a backslash
 pub record IsPlain (word : List ℕ) : Type 0 where
@@ -55,21 +57,26 @@ pub data Begins : List ℕ → Piece → Type 0 where
   block_annotation : {bs : List ℕ} → starts bs (codes "@") ≡ true → Begins (slash ∷ star ∷ bs) (Blank 3)
   annotation_end : {bs : List ℕ} → starts bs (codes "*/") ≡ true → Begins (at_sign ∷ bs) (Blank 3)
   -- up to the end of the line
-  line_comment : {bs : List ℕ} → starts bs (codes "@") ≡ false → Begins (slash ∷ slash ∷ bs) (Blank (2 + prefix_len is_in_line bs))
+  line_comment : {bs : List ℕ} → starts bs (codes "@") ≡ false
+      → Begins (slash ∷ slash ∷ bs) (Blank (2 + prefix_len is_in_line bs))
   -- up to the first end behind the opening
   block_comment : {bs : List ℕ} {n : ℕ} → starts bs (codes "@") ≡ false → Closes bs n → Begins (slash ∷ star ∷ bs) (Blank (2 + n))
-  reserved_word : {b : ℕ} {bs : List ℕ} {k : ℕ} → class_of b ≡ Letter → position (pointwise nat_eq (word_of (b ∷ bs))) reserved ≡ Some k
+  reserved_word : {b : ℕ} {bs : List ℕ} {k : ℕ} → class_of b ≡ Letter
+      → position (pointwise nat_eq (word_of (b ∷ bs))) reserved ≡ Some k
       → Begins (b ∷ bs) (Fixed k (word_len (b ∷ bs)))
   other_word : {b : ℕ} {bs : List ℕ} → class_of b ≡ Letter → position (pointwise nat_eq (word_of (b ∷ bs))) reserved ≡ None
       → Begins (b ∷ bs) (Word (word_len (b ∷ bs)))
   number : {b : ℕ} {bs : List ℕ} → class_of b ≡ Digit → Begins (b ∷ bs) (Number (prefix_len is_digit (b ∷ bs)))
-  result_word : {bs : List ℕ} → word_of bs ≡ codes "result" → Begins (backslash ∷ bs) (Fixed 42 7)
-  old_word : {bs : List ℕ} → word_of bs ≡ codes "old" → Begins (backslash ∷ bs) (Fixed 43 4)
-  forall_word : {bs : List ℕ} → word_of bs ≡ codes "forall" → starts (drop 6 bs) (codes "*") ≡ false → Begins (backslash ∷ bs) (Fixed 44 7)
-  forall_star : {bs : List ℕ} → word_of bs ≡ codes "forall" → starts (drop 6 bs) (codes "*") ≡ true → Begins (backslash ∷ bs) (Fixed 45 8)
+  result_word : {bs : List ℕ} → word_of bs ≡ codes "result" → Begins (backslash ∷ bs) (Fixed RESULT 7)
+  old_word : {bs : List ℕ} → word_of bs ≡ codes "old" → Begins (backslash ∷ bs) (Fixed OLD 4)
+  forall_word : {bs : List ℕ} → word_of bs ≡ codes "forall" → starts (drop 6 bs) (codes "*") ≡ false
+      → Begins (backslash ∷ bs) (Fixed FORALL 7)
+  forall_star : {bs : List ℕ} → word_of bs ≡ codes "forall" → starts (drop 6 bs) (codes "*") ≡ true
+      → Begins (backslash ∷ bs) (Fixed FORALL_STAR 8)
   -- the longest symbol
-  symbol : {b : ℕ} {bs text : List ℕ} {k : ℕ} → class_of b ≡ Other → IsLongest (b ∷ bs) k text → Begins (b ∷ bs) (Fixed (46 + k) (length text))
-  backslash_alone : {bs : List ℕ} → IsPlain (word_of bs) → Begins (backslash ∷ bs) (Fixed 72 1)
+  symbol : {b : ℕ} {bs text : List ℕ} {k : ℕ} → class_of b ≡ Other → IsLongest (b ∷ bs) k text
+      → Begins (b ∷ bs) (Fixed (IMPLIES + k) (length text))
+  backslash_alone : {bs : List ℕ} → IsPlain (word_of bs) → Begins (backslash ∷ bs) (Fixed BACKSLASH 1)
 
 -- a block comment opens here and has no end
 pub data IsOpen : List ℕ → Type 0 where

@@ -1,5 +1,5 @@
 -- A text is read from left to right, piece by piece.
-use Rattle.std.specs.Prelude.{◌≡◌, ℕ, ◌+◌, ◌<◌, ◌≤◌, List, [], ◌∷◌, ◌++◌, None, length, take, drop}
+use Rattle.std.specs.Prelude.{◌≡◌, ◌⊎◌, ℕ, ◌+◌, ◌<◌, ◌≤◌, List, [], ◌∷◌, ◌++◌, None, length, take, drop}
 use Rattle.pv_names.specs.Numbering.{most_names, place_of, number_of, with_text}
 use Rattle.pv_tokens.specs.declared.Lexeme.{Lexeme}
 use Rattle.pv_tokens.specs.declared.LexemeKind.{LexemeKind}
@@ -40,7 +40,9 @@ pub data Step (text : List ℕ) : Progress → Progress → Type 0 where
   number : {s : Progress} {n : ℕ} → Begins (left text s) (Number n) → decimal (take n (left text s)) ≤ most
       → Step text s (with_token s (kind.Number (decimal (take n (left text s)))) n s.names)
   name : {s : Progress} {n : ℕ} → Begins (left text s) (Word n) → (IsFull s.names (take n (left text s)) → ⊥)
-      → Step text s (with_token s (kind.Named (record { 0 = number_of s.names (take n (left text s)) })) n (with_text s.names (take n (left text s))))
+      → Step text s
+      (with_token s (kind.Named (record { 0 = number_of s.names (take n (left text s)) })) n
+      (with_text s.names (take n (left text s))))
 
 -- pieces are read one after the other
 pub data Steps (text : List ℕ) : Progress → Progress → Type 0 where
@@ -51,7 +53,8 @@ pub data Steps (text : List ℕ) : Progress → Progress → Type 0 where
 pub data Stops (text : List ℕ) : Progress → TokenFault → Type 0 where
   bad_byte : {s : Progress} → IsForeign (left text s) → Stops text s (fault.BadByte s.at)
   open_comment : {s : Progress} → IsOpen (left text s) → Stops text s (fault.OpenComment s.at)
-  bad_number : {s : Progress} {n : ℕ} → Begins (left text s) (Number n) → most < decimal (take n (left text s)) → Stops text s (fault.BadNumber s.at)
+  bad_number : {s : Progress} {n : ℕ} → Begins (left text s) (Number n) → most < decimal (take n (left text s))
+      → Stops text s (fault.BadNumber s.at)
   full : {s : Progress} {n : ℕ} → Begins (left text s) (Word n) → IsFull s.names (take n (left text s)) → Stops text s fault.Full
 
 -- the text is these tokens; the names before and after
@@ -61,3 +64,20 @@ IsTokens text names lexemes after = Steps text (progress 0 names []) (progress (
 -- the text has this fault, behind tokens that are none
 abbrev pub IsFault : List ℕ → List (List ℕ) → TokenFault → Type 0
 IsFault text names f = (s : Progress) × Steps text (progress 0 names []) s × Stops text s f
+
+-- ---- what holds of each text, with whatever names before
+
+abbrev pub EachIsRead : Type 0
+EachIsRead = (text : List ℕ) (names : List (List ℕ))
+    → ((xs : List Lexeme) × (after : List (List ℕ)) × IsTokens text names xs after) ⊎ ((f : TokenFault) × IsFault text names f)
+
+abbrev pub OneReading : Type 0
+OneReading = (text : List ℕ) (names : List (List ℕ)) (xs ys : List Lexeme) (after other : List (List ℕ))
+    → IsTokens text names xs after → IsTokens text names ys other → (xs ≡ ys) × (after ≡ other)
+
+abbrev pub OneFault : Type 0
+OneFault = (text : List ℕ) (names : List (List ℕ)) (e f : TokenFault) → IsFault text names e → IsFault text names f → e ≡ f
+
+abbrev pub NeverBoth : Type 0
+NeverBoth = (text : List ℕ) (names : List (List ℕ)) (e : TokenFault) (xs : List Lexeme) (after : List (List ℕ))
+    → IsFault text names e → IsTokens text names xs after → ⊥

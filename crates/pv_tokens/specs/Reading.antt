@@ -7,6 +7,7 @@ use Rattle.pv_tokens.specs.declared.bytes.Class.{Class}
 use Rattle.pv_tokens.specs.declared.bytes.Class.TheVariants.{Space, Letter, Digit, Slash, At, Backslash, Other}
 use Rattle.pv_tokens.specs.declared.pieces.Piece.{Piece}
 use Rattle.pv_tokens.specs.declared.pieces.Piece.TheVariants.{Blank, Word, Number, Fixed, OpenComment, Nothing}
+use Rattle.pv_tokens.specs.declared.fixed.TheConstants.{RESULT, OLD, FORALL, FORALL_STAR, IMPLIES, BACKSLASH}
 use Rattle.pv_tokens.specs.Bytes.{is_digit, is_in_line, class_of}
 use Rattle.pv_tokens.specs.Words.{reserved, symbols}
 use Rattle.pv_tokens.specs.Pieces.{word_len, word_of, starts}
@@ -38,21 +39,21 @@ unfoldable pub word_piece : List ℕ → Piece
 word_piece bytes = word_or_fixed (word_len bytes) (position (pointwise nat_eq (word_of bytes)) reserved)
 
 unfoldable pub forall_piece : List ℕ → Piece
-forall_piece bytes = if starts (drop 7 bytes) (codes "*") then Fixed 45 8 else Fixed 44 7
+forall_piece bytes = if starts (drop 7 bytes) (codes "*") then Fixed FORALL_STAR 8 else Fixed FORALL 7
 
 abbrev pub backslash_by : List ℕ → List ℕ → Piece
 backslash_by word bytes =
-    if pointwise nat_eq word (codes "result") then Fixed 42 7 else
-    (if pointwise nat_eq word (codes "old") then Fixed 43 4 else
+    if pointwise nat_eq word (codes "result") then Fixed RESULT 7 else
+    (if pointwise nat_eq word (codes "old") then Fixed OLD 4 else
     (if pointwise nat_eq word (codes "forall") then forall_piece bytes else
-    Fixed 72 1))
+    Fixed BACKSLASH 1))
 
 unfoldable pub backslash_piece : List ℕ → Piece
 backslash_piece bytes = backslash_by (word_of (drop 1 bytes)) bytes
 
 abbrev pub symbol_or_nothing : Option ℕ → Piece
 symbol_or_nothing None = Nothing
-symbol_or_nothing (Some k) = Fixed (46 + k) (length (slice_index_or symbols k []))
+symbol_or_nothing (Some k) = Fixed (IMPLIES + k) (length (slice_index_or symbols k []))
 
 unfoldable pub symbol_piece : List ℕ → Piece
 symbol_piece bytes = symbol_or_nothing (position (λ s. starts bytes s) symbols)

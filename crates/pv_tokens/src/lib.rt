@@ -13,9 +13,12 @@ use thiserror::Error;
 
 mod bytes;
 pub mod fixed;
+mod laws;
 mod pieces;
 pub mod reading;
 mod words;
+
+pub use laws::{numbers_are_places, one_reading};
 
 /// What a token is: a name, a number, or the reserved word or symbol of that number in `fixed`.
 #[derive(Clone, Copy, Debug, PartialEq, Eq, Drop)]
@@ -120,6 +123,3 @@ impl Tokens {
         self.items.get(at)
     }
 }
-
-#[cfg(test)]
-mod tests;

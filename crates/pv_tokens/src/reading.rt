@@ -1,9 +1,10 @@
 //! A text is read from left to right, piece by piece.
 
-ghost use Rattle.std.specs.Prelude.{◌≡◌, ◌≢◌, ◌⊎◌, ◌+◌, ◌-◌, ◌^◌, ◌<◌, ◌≤◌, [], ◌∷◌, ◌++◌, List, ℕ, length, take, drop, codes, MatchOption, Any, IfOk, IfErr, IsOkAnd, IsErrOf, IsTrue, ◌↔◌};
+ghost use Rattle.std.specs.Prelude.{◌≡◌, ◌≢◌, ◌⊎◌, ◌+◌, ◌-◌, ◌<◌, ◌≤◌, [], ◌∷◌, ◌++◌, List, ℕ, length, take, drop, codes, MatchOption, Any, IfOk, IfErr, IsOkAnd, IsErrOf, IsTrue, ◌↔◌};
 ghost use Rattle.pv_tokens.specs.declared.Lexeme.{Lexeme};
 ghost use Rattle.pv_tokens.specs.declared.TokenFault.{TokenFault};
-ghost use Rattle.pv_tokens.specs.Bytes.{decimal, most};
+ghost use Rattle.pv_names.specs.Numbering.{Extends};
+ghost use Rattle.pv_tokens.specs.Bytes.{decimal, most, most_bytes};
 ghost use Rattle.pv_tokens.specs.Pieces.{Shows, FitsIn};
 ghost use Rattle.pv_tokens.specs.Progress.{Step, Steps, Stops, IsTokens, IsFault, progress};
 ghost use Rattle.pv_tokens.specs.Lexemes.{InOrder, AreWithin, IsNumberOf};
@@ -57,7 +58,7 @@ fn put(
     at: usize,
     n: usize,
 ) -> Result<usize, AllocError>
-    requires { at + n ≤ 2 ^ 20 }
+    requires { at + n ≤ most_bytes }
     ensures to { IfOk result (λ to. to ≡ at + n) }
     ensures list { IfOk result (λ _. lexemes.new ≡ lexemes.old
         ++ record { kind = kind; span = record { from = at; to = at + n } } ∷ []) }
@@ -77,11 +78,12 @@ fn read_piece(
     names: &mut Names,
     lexemes: &mut Items<Lexeme>,
 ) -> Result<usize, TokenFault>
-    requires short { length text.now ≤ 2 ^ 20 }
+    requires short { length text.now ≤ most_bytes }
     requires within { at < length text.now }
     ensures step { IfOk result (λ to. Step text.now (progress at names.old lexemes.old) (progress to names.new lexemes.new)) }
     ensures to { IfOk result (λ to. (at < to) × (to ≤ length text.now)) }
     ensures stop { IfErr result (λ e. e ≢ TokenFault.NoMemory → Stops text.now (progress at names.old lexemes.old) e) }
+    ensures names { Extends names.old names.new }
 {
     match piece_at(text, at) {
         Piece::Blank(n) => Ok(at + n),
@@ -101,9 +103,10 @@ fn read_piece(
 
 /// Reads the whole text.
 fn read_all(alloc: Global, text: &[u8], names: &mut Names) -> Result<Items<Lexeme>, TokenFault>
-    requires { length text.now ≤ 2 ^ 20 }
+    requires { length text.now ≤ most_bytes }
     ensures tokens { IfOk result (λ items. IsTokens text.now names.old items names.new) }
     ensures fault { IfErr result (λ e. e ≢ TokenFault.NoMemory → IsFault text.now names.old e) }
+    ensures names { Extends names.old names.new }
 {
     let mut lexemes = Items::new(alloc);
     let mut at = 0;
@@ -133,9 +136,10 @@ fn length_name(names: &Names, lexemes: &[Lexeme]) -> Option<Name>
 }
 
 /// The tokens of a text, with its names put into the list. The fault is the first in the text; a name for which there is no number
-/// left is one at its place. After an `Err` the list may hold more names than before. It takes time linear in the text.
+/// left is one at its place. The list keeps its names, and the new ones stand behind them, after an `Err` too. It takes time linear in
+/// the text.
 pub fn tokens(alloc: Global, text: &[u8], names: &mut Names) -> Result<Tokens, TokenFault>
-    requires { length text.now ≤ 2 ^ 20 }
+    requires { length text.now ≤ most_bytes }
 
     // What is answered is so.
     ensures tokens { IfOk result (λ ts. IsTokens text.now names.old ts.items names.new) }
@@ -146,6 +150,9 @@ pub fn tokens(alloc: Global, text: &[u8], names: &mut Names) -> Result<Tokens, T
         → IsOkAnd result (λ ts. (ts.items ≡ xs) × (names.new ≡ after)) ⊎ IsErrOf result TokenFault.NoMemory }
     ensures refuses { (e : TokenFault) → IsFault text.now names.old e
         → IsErrOf result e ⊎ IsErrOf result TokenFault.NoMemory }
+
+    // The names of before stay, each at its number, whatever is answered.
+    ensures names { Extends names.old names.new }
 
     // What holds of the tokens of every text.
     ensures length { IfOk result (λ ts. IsNumberOf names.new (codes "length") ts.items ts.length) }

@@ -5,35 +5,56 @@ use Rattle.std.proofs.Math.Bool.{and_assoc, or_assoc}
 use Rattle.pv_ast.specs.declared.PvType.{PvType}
 use Rattle.pv_ast.specs.declared.Expr.{Expr}
 use Rattle.pv_ast.specs.declared.Param.{Param}
-use Rattle.pv_rules.specs.declared.fault.Fault.{Fault}
-use Rattle.pv_rules.specs.declared.standing.Context.{Context}
-use Rattle.pv_rules.specs.Faults.{both, least}
-use Rattle.pv_rules.specs.Scoping.{Visible}
-use Rattle.pv_rules.specs.Parts.{Around, Part, part_of, typing_in, names_local, args_meet, args_name_local, faults_of_args, types_of}
-use Rattle.pv_rules.specs.Statements.{need_of_result}
-use Rattle.pv_types.specs.Arounds.{IsNextType, has_type}
+use Rattle.pv_ast.specs.declared.fault.Fault.{Fault}
+use Rattle.pv_ast.specs.declared.standing.Context.{Context}
+use Rattle.pv_ast.specs.Rules.Faults.{both, least}
+use Rattle.pv_ast.specs.Rules.Scoping.{Visible}
+use Rattle.pv_ast.specs.Rules.Expressions.{Environment, CheckedExpression, checked_expression, typing_in, names_local, args_meet, args_name_local, faults_of_args, types_of}
+use Rattle.pv_ast.specs.Rules.Statements.{need_of_result}
+use Rattle.pv_types.specs.Environments.{IsNextType, has_type}
 
-next_at : {Y : Type 0} (F : List Expr → Y) (es : List Expr) (i : ℕ) (e : Expr) → i < length es → e ≡ get_or es i e → F (drop i es) ≡ F (e ∷ drop (i + 1) es)
+next_at : {Y : Type 0} (F : List Expr → Y) (es : List Expr) (i : ℕ) (e : Expr) → i < length es → e ≡ get_or es i e
+    → F (drop i es) ≡ F (e ∷ drop (i + 1) es)
 next_at F es i e l h = at_drop_more F es i e l ∙ ap (λ x. F (x ∷ drop (i + 1) es)) (sym h)
 
-meet_first : (ps rest : List Param) (needed : Option PvType) (e : Expr) (es : List Expr) (a : Around) (v : Visible) → IsNextType ps needed rest → args_meet (map part_of (e ∷ es)) (types_of ps) a v ≡ (has_type needed (typing_in (part_of e) a v) && args_meet (map part_of es) (types_of rest) a v)
+meet_first : (ps rest : List Param) (needed : Option PvType) (e : Expr) (es : List Expr) (a : Environment) (v : Visible)
+    → IsNextType ps needed rest
+    → args_meet (map checked_expression (e ∷ es)) (types_of ps) a v
+    ≡ (has_type needed (typing_in (checked_expression e) a v) && args_meet (map checked_expression es) (types_of rest) a v)
 meet_first [] rest needed e es a v h = rw h.0 (rw h.1 refl)
 meet_first (p ∷ ps) rest needed e es a v h = rw h.0 (rw h.1 refl)
 
-faults_first : (ps rest : List Param) (needed : Option PvType) (e : Expr) (es : List Expr) (a : Around) (v : Visible) (c : Context) → IsNextType ps needed rest → faults_of_args (map part_of (e ∷ es)) (types_of ps) a v c ≡ both ((part_of e).faults a v c (need_of_result needed)) (faults_of_args (map part_of es) (types_of rest) a v c)
+faults_first : (ps rest : List Param) (needed : Option PvType) (e : Expr) (es : List Expr) (a : Environment) (v : Visible)
+    (c : Context) → IsNextType ps needed rest
+    → faults_of_args (map checked_expression (e ∷ es)) (types_of ps) a v c
+    ≡ both ((checked_expression e).faults a v c (need_of_result needed))
+    (faults_of_args (map checked_expression es) (types_of rest) a v c)
 faults_first [] rest needed e es a v c h = rw h.0 (rw h.1 refl)
 faults_first (p ∷ ps) rest needed e es a v c h = rw h.0 (rw h.1 refl)
 
-pub meet_next : (es : List Expr) (i : ℕ) (e : Expr) (ps rest : List Param) (needed : Option PvType) (a : Around) (v : Visible) (meet : Bool) → i < length es → e ≡ get_or es i e → IsNextType ps needed rest → (meet && args_meet (map part_of (drop i es)) (types_of ps) a v) ≡ ((meet && has_type needed (typing_in (part_of e) a v)) && args_meet (map part_of (drop (i + 1) es)) (types_of rest) a v)
+pub meet_next : (es : List Expr) (i : ℕ) (e : Expr) (ps rest : List Param) (needed : Option PvType) (a : Environment)
+    (v : Visible)
+    (meet : Bool) → i < length es → e ≡ get_or es i e → IsNextType ps needed rest
+    → (meet && args_meet (map checked_expression (drop i es)) (types_of ps) a v)
+    ≡ ((meet && has_type needed (typing_in (checked_expression e) a v))
+    && args_meet (map checked_expression (drop (i + 1) es)) (types_of rest) a v)
 meet_next es i e ps rest needed a v meet l h n =
-    next_at (λ xs. meet && args_meet (map part_of xs) (types_of ps) a v) es i e l h
+    next_at (λ xs. meet && args_meet (map checked_expression xs) (types_of ps) a v) es i e l h
     ∙ (ap (λ b. meet && b) (meet_first ps rest needed e (drop (i + 1) es) a v n) ∙ sym (and_assoc meet _ _))
 
-pub local_next : (es : List Expr) (i : ℕ) (e : Expr) (a : Around) (v : Visible) (local : Bool) → i < length es → e ≡ get_or es i e → (local || args_name_local (map part_of (drop i es)) a v) ≡ ((local || names_local (part_of e) a v) || args_name_local (map part_of (drop (i + 1) es)) a v)
+pub local_next : (es : List Expr) (i : ℕ) (e : Expr) (a : Environment) (v : Visible) (local : Bool) → i < length es → e
+    ≡ get_or es i e
+    → (local || args_name_local (map checked_expression (drop i es)) a v)
+    ≡ ((local || names_local (checked_expression e) a v) || args_name_local (map checked_expression (drop (i + 1) es)) a v)
 local_next es i e a v local l h =
-    next_at (λ xs. local || args_name_local (map part_of xs) a v) es i e l h ∙ sym (or_assoc local _ _)
+    next_at (λ xs. local || args_name_local (map checked_expression xs) a v) es i e l h ∙ sym (or_assoc local _ _)
 
-pub faults_next : (es : List Expr) (i : ℕ) (e : Expr) (ps rest : List Param) (needed : Option PvType) (a : Around) (v : Visible) (c : Context) (first : Option Fault) → i < length es → e ≡ get_or es i e → IsNextType ps needed rest → least first (faults_of_args (map part_of (drop i es)) (types_of ps) a v c) ≡ least (least first ((part_of e).faults a v c (need_of_result needed))) (faults_of_args (map part_of (drop (i + 1) es)) (types_of rest) a v c)
+pub faults_next : (es : List Expr) (i : ℕ) (e : Expr) (ps rest : List Param) (needed : Option PvType) (a : Environment)
+    (v : Visible)
+    (c : Context) (first : Option Fault) → i < length es → e ≡ get_or es i e → IsNextType ps needed rest
+    → least first (faults_of_args (map checked_expression (drop i es)) (types_of ps) a v c)
+    ≡ least (least first ((checked_expression e).faults a v c (need_of_result needed)))
+    (faults_of_args (map checked_expression (drop (i + 1) es)) (types_of rest) a v c)
 faults_next es i e ps rest needed a v c first l h n =
-    next_at (λ xs. least first (faults_of_args (map part_of xs) (types_of ps) a v c)) es i e l h
+    next_at (λ xs. least first (faults_of_args (map checked_expression xs) (types_of ps) a v c)) es i e l h
     ∙ ap (least first) (faults_first ps rest needed e (drop (i + 1) es) a v c n)

@@ -6,3 +6,6 @@ pub mod Instances
 pub mod Labelling
 pub mod MemberNames
 pub mod StatementKinds
+pub mod Firsts
+pub mod Keys
+pub mod Leaving

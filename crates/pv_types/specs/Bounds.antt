@@ -4,15 +4,15 @@ use Rattle.std.specs.Borrow.{Bor}
 use Rattle.pv_base.specs.declared.Name.{Name}
 use Rattle.pv_ast.specs.declared.PvType.TheVariants.{Int, Object}
 use Rattle.pv_ast.specs.declared.PvType.{PvType}
-use Rattle.pv_rules.specs.declared.scope.ScopeVar.{ScopeVar}
-use Rattle.pv_rules.specs.declared.scope.Declared.{Declared}
-use Rattle.pv_rules.specs.declared.standing.Seen.{Seen}
-use Rattle.pv_rules.specs.declared.standing.Typing.TheVariants.{Typed}
-use Rattle.pv_rules.specs.Parts.{Signature, unsought, unknown, taking}
-use Rattle.pv_rules.specs.declared.scope.Scope.{Scope}
-use Rattle.pv_rules.specs.declared.scope.Declaration.TheVariants.{Bound}
-use Rattle.pv_rules.specs.Scoping.{Visible, declare_variable}
-use Rattle.pv_rules.specs.Programs.{visible_in, declared_var}
+use Rattle.pv_ast.specs.declared.scope.ScopeVar.{ScopeVar}
+use Rattle.pv_ast.specs.declared.scope.Declared.{Declared}
+use Rattle.pv_ast.specs.declared.standing.Seen.{Seen}
+use Rattle.pv_ast.specs.declared.standing.Typing.TheVariants.{Typed}
+use Rattle.pv_ast.specs.Rules.Expressions.{Signature, unsought, unknown, taking}
+use Rattle.pv_ast.specs.declared.scope.Scope.{Scope}
+use Rattle.pv_ast.specs.declared.scope.Declaration.TheVariants.{Bound}
+use Rattle.pv_ast.specs.Rules.Scoping.{Visible, declare_variable}
+use Rattle.pv_ast.specs.Rules.Programs.{visible_in, declared_var}
 use Rattle.pv_types.specs.declared.scoped.Bounds.{Bounds, Bounds-F, fold-Bounds}
 
 abbrev pub visible_outside : Scope → Option (Bor Visible) → Visible

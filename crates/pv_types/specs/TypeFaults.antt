@@ -1,8 +1,8 @@
 -- What a fault of the static rules says of a program.
 use Rattle.std.specs.Prelude.{◌≡◌, Some}
 use Rattle.pv_ast.specs.declared.Program.{Program}
-use Rattle.pv_rules.specs.Faults.{IsFirst, first_of}
-use Rattle.pv_rules.specs.Programs.{faults_of_program}
+use Rattle.pv_ast.specs.Rules.Faults.{IsFirst, first_of}
+use Rattle.pv_ast.specs.Rules.Programs.{faults_of_program}
 use Rattle.pv_types.specs.declared.TypeFault.{TypeFault}
 use Rattle.pv_types.specs.declared.TypeFault.TheVariants.{Broken, NoMemory}
 

@@ -1,5 +1,5 @@
 -- What the code keeps on the way through statements, as the definitions see it.
-use Rattle.pv_rules.specs.Statements.{Messages as Labels}
+use Rattle.pv_ast.specs.Rules.Statements.{Messages as Labels}
 use Rattle.pv_types.specs.declared.labels.Messages.{Messages}
 use Rattle.pv_types.specs.declared.walk.Walk.{Walk}
 

@@ -1,22 +1,21 @@
 ghost use Rattle.std.specs.Prelude.{◌≡◌, ◌++◌, ◌||◌, false, map, is_some, OnOk, IfOk, MatchOption, Some, None};
 ghost use Rattle.std.specs.List.{filter_map};
 ghost use Rattle.std.specs.Option.{option_to_list};
-ghost use Rattle.pv_rules.specs.Faults.{least};
-ghost use Rattle.pv_rules.specs.declared.fault.Rule.TheVariants as rule;
-ghost use Rattle.pv_rules.specs.Statements as stated;
-ghost use Rattle.pv_rules.specs.Programs as programs;
-ghost use Rattle.pv_types.specs.Arounds.{around_of};
+ghost use Rattle.pv_ast.specs.Rules.Faults.{least};
+ghost use Rattle.pv_ast.specs.declared.fault.Rule.TheVariants as rule;
+ghost use Rattle.pv_ast.specs.Rules.Statements as stated;
+ghost use Rattle.pv_ast.specs.Rules.Programs as programs;
+ghost use Rattle.pv_types.specs.Environments.{environment_of};
 
-use crate::around::Around;
 use crate::clauses::formula;
+use crate::environment::Environment;
 use crate::labels::note_repeated;
 use crate::members::members;
 use crate::noting::note_if;
 use crate::standing::in_condition;
-use pv_ast::{Class, Expr, Member, Program, Word};
+use crate::{ClassEntry, ClassTable, Visible};
+use pv_ast::{Class, Expr, Fault, Member, Program, Rule, Word};
 use pv_base::NoMemory;
-use pv_rules::{Fault, Rule};
-use pv_scopes::{ClassEntry, ClassTable, Visible};
 use std::alloc::Global;
 
 /// The name of a member. What a thread of the class runs has none.
@@ -80,16 +79,16 @@ fn note_runs(members: &[Member], first: &mut Option<Fault>)
 fn lock_invariant(
     alloc: Global,
     invariant: &Option<Expr>,
-    around: &Around,
+    environment: &Environment,
     first: &mut Option<Fault>,
 ) -> Result<(), NoMemory>
-    ensures { OnOk result (first.new ≡ least first.old (programs.faults_of_lock_invariant (around_of around.now) invariant.now)) }
+    ensures { OnOk result (first.new ≡ least first.old (programs.faults_of_lock_invariant (environment_of environment.now) invariant.now)) }
 {
     match invariant {
         None => Ok(()),
         Some(e) => {
             let mut visible = Visible::new(alloc);
-            formula(e, around, in_condition(), &mut visible, first)
+            formula(e, environment, in_condition(), &mut visible, first)
         }
     }
 }
@@ -104,18 +103,18 @@ fn class(
     ensures { OnOk result (first.new ≡ least first.old (programs.faults_of_class table.now entry.now)) }
 {
     let class = entry.class();
-    let around = Around {
+    let environment = Environment {
         table,
         class: class.name.name,
         here: Some(entry),
         result: None,
     };
-    lock_invariant(alloc, &class.lock_invariant, &around, first)?;
+    lock_invariant(alloc, &class.lock_invariant, &environment, first)?;
     let each = class.members.as_slice();
     let names = names_of(alloc, each)?;
     note_repeated(alloc, Rule::Duplicate, names.as_slice(), first)?;
     note_runs(each, first);
-    members(alloc, each, &around, first)
+    members(alloc, each, &environment, first)
 }
 
 /// Notes the faults of classes.

@@ -1,44 +1,43 @@
 ghost use Rattle.std.specs.Prelude.{◌≡◌, OnOk, if◌then◌else◌};
-ghost use Rattle.pv_rules.specs.Faults.{least};
-ghost use Rattle.pv_rules.specs.Statements as stated;
-ghost use Rattle.pv_types.specs.Arounds.{around_of};
+ghost use Rattle.pv_ast.specs.Rules.Faults.{least};
+ghost use Rattle.pv_ast.specs.Rules.Statements as stated;
+ghost use Rattle.pv_types.specs.Environments.{environment_of};
 
-use crate::around::Around;
+use crate::Visible;
+use crate::environment::Environment;
 use crate::expressions::part;
-use pv_ast::{Clause, ClauseKind, Expr, PvType};
+use pv_ast::{Clause, ClauseKind, Context, Expr, Fault, Need, PvType};
 use pv_base::NoMemory;
-use pv_rules::{Context, Fault, Need};
-use pv_scopes::Visible;
 
 /// Notes the faults of a formula.
 pub(crate) fn formula(
     e: &Expr,
-    around: &Around,
+    environment: &Environment,
     context: Context,
     visible: &mut Visible,
     first: &mut Option<Fault>,
 ) -> Result<(), NoMemory>
-    ensures found { OnOk result (first.new ≡ least first.old (stated.faults_of_formula (around_of around.now) visible.old context e.now)) }
+    ensures found { OnOk result (first.new ≡ least first.old (stated.faults_of_formula (environment_of environment.now) visible.old context e.now)) }
     ensures same { OnOk result (visible.new ≡ visible.old) }
 {
     let a_truth = Need::Exactly(PvType::Truth);
-    part(e, around, context, a_truth, visible, first)?;
+    part(e, environment, context, a_truth, visible, first)?;
     Ok(())
 }
 
 /// Notes the faults of formulas.
 pub(crate) fn formulas(
     es: &[Expr],
-    around: &Around,
+    environment: &Environment,
     context: Context,
     visible: &mut Visible,
     first: &mut Option<Fault>,
 ) -> Result<(), NoMemory>
-    ensures found { OnOk result (first.new ≡ least first.old (stated.faults_of_formulas (around_of around.now) visible.old context es.now)) }
+    ensures found { OnOk result (first.new ≡ least first.old (stated.faults_of_formulas (environment_of environment.now) visible.old context es.now)) }
     ensures same { OnOk result (visible.new ≡ visible.old) }
 {
     for e in es {
-        formula(e, around, context, visible, first)?;
+        formula(e, environment, context, visible, first)?;
     }
     Ok(())
 }
@@ -57,18 +56,18 @@ fn context_of(kind: ClauseKind, in_ensures: Context, others: Context) -> Context
 /// Notes the faults of clauses, where an `ensures` stands in the first context and each other clause in the second.
 pub(crate) fn clauses(
     clauses: &[Clause],
-    around: &Around,
+    environment: &Environment,
     in_ensures: Context,
     others: Context,
     visible: &mut Visible,
     first: &mut Option<Fault>,
 ) -> Result<(), NoMemory>
-    ensures found { OnOk result (first.new ≡ least first.old (stated.faults_of_clauses (around_of around.now) visible.old in_ensures others clauses.now)) }
+    ensures found { OnOk result (first.new ≡ least first.old (stated.faults_of_clauses (environment_of environment.now) visible.old in_ensures others clauses.now)) }
     ensures same { OnOk result (visible.new ≡ visible.old) }
 {
     for clause in clauses {
         let context = context_of(clause.kind, in_ensures, others);
-        formula(&clause.formula, around, context, visible, first)?;
+        formula(&clause.formula, environment, context, visible, first)?;
     }
     Ok(())
 }

@@ -2,15 +2,16 @@ ghost use Rattle.std.specs.Prelude.{◌≡◌, ◌||◌, ◌&&◌, not, map, tru
 ghost use Rattle.pv_ast.specs.declared.Each.{out-Each};
 ghost use Rattle.pv_ast.specs.declared.ExprKind.{ExprKind-F as kind};
 ghost use Rattle.pv_ast.specs.declared.PvType.TheVariants as pv;
-ghost use Rattle.pv_rules.specs.declared.fault.Rule.TheVariants as rule;
-ghost use Rattle.pv_rules.specs.declared.standing.Need.TheVariants as need;
-ghost use Rattle.pv_rules.specs.Faults.{least, both, broken_if, broken_unless};
-ghost use Rattle.pv_rules.specs.Typing as typing;
-ghost use Rattle.pv_rules.specs.Scoping as scoping;
-ghost use Rattle.pv_rules.specs.Parts.{part_of, part_of_kind, part_of_each, part_in_kind, seen_of_name, faults_of_name, faults_of_written, faults_of_location, faults_of_role, faults_of_field, faults_of_old, value_seen, place_seen, seen_of_result, with_bound};
-ghost use Rattle.pv_types.specs.Arounds.{around_of};
+ghost use Rattle.pv_ast.specs.declared.fault.Rule.TheVariants as rule;
+ghost use Rattle.pv_ast.specs.declared.standing.Need.TheVariants as need;
+ghost use Rattle.pv_ast.specs.Rules.Faults.{least, both, broken_if, broken_unless};
+ghost use Rattle.pv_ast.specs.Rules.Typing as typing;
+ghost use Rattle.pv_ast.specs.Rules.Scoping as scoping;
+ghost use Rattle.pv_ast.specs.Rules.Expressions.{checked_expression, checked_kind, checked_each, checked_in_kind, seen_of_name, faults_of_name, faults_of_written, faults_of_location, faults_of_role, faults_of_field, faults_of_old, value_seen, place_seen, seen_of_result, with_bound};
+ghost use Rattle.pv_types.specs.Environments.{environment_of};
 
-use crate::around::Around;
+use crate::Visible;
+use crate::environment::Environment;
 use crate::noting::{note_if, note_unless};
 use crate::standing::{purely, under_left, under_quantifier, under_right};
 use crate::types::{
@@ -18,10 +19,11 @@ use crate::types::{
     typing_of_old, typing_of_operator, typing_or,
 };
 use crate::uses::instance;
-use pv_ast::{Each, Expr, ExprKind, Operator, PvType, Token, Word};
+use pv_ast::{
+    Context, Declaration, Declared, Each, Expr, ExprKind, Fault, Need, Operator, PvType, Rule,
+    Seen, Token, Typing, Word,
+};
 use pv_base::{Name, NoMemory, Span};
-use pv_rules::{Context, Declaration, Declared, Fault, Need, Rule, Seen, Typing};
-use pv_scopes::Visible;
 
 pub(crate) const AN_INT: Need = Need::Exactly(PvType::Int);
 
@@ -70,17 +72,17 @@ pub(crate) fn quantified_seen(low: Seen, high: Seen, body: Seen) -> Seen
 #[cycle(part)]
 pub(crate) fn part(
     e: &Expr,
-    around: &Around,
+    environment: &Environment,
     context: Context,
     need: Need,
     visible: &mut Visible,
     first: &mut Option<Fault>,
 ) -> Result<Seen, NoMemory>
-    ensures seen { IfOk result (λ seen. seen ≡ (part_of e.now).seen (around_of around.now) visible.old) }
-    ensures found { OnOk result (first.new ≡ least first.old ((part_of e.now).faults (around_of around.now) visible.old context need)) }
+    ensures seen { IfOk result (λ seen. seen ≡ (checked_expression e.now).seen (environment_of environment.now) visible.old) }
+    ensures found { OnOk result (first.new ≡ least first.old ((checked_expression e.now).faults (environment_of environment.now) visible.old context need)) }
     ensures same { OnOk result (visible.new ≡ visible.old) }
 {
-    let seen = part_in(&e.kind, e.span, around, context, visible, first)?;
+    let seen = part_in(&e.kind, e.span, environment, context, visible, first)?;
     note_wrong_type(need, seen.typing, first, e.span);
     Ok(seen)
 }
@@ -89,93 +91,106 @@ pub(crate) fn part(
 fn part_in(
     kind: &ExprKind,
     span: Span,
-    around: &Around,
+    environment: &Environment,
     context: Context,
     visible: &mut Visible,
     first: &mut Option<Fault>,
 ) -> Result<Seen, NoMemory>
-    ensures seen { IfOk result (λ seen. seen ≡ (part_of_kind kind.now).seen (around_of around.now) visible.old) }
-    ensures found { OnOk result (first.new ≡ least first.old ((part_of_kind kind.now).faults span (around_of around.now) visible.old context)) }
+    ensures seen { IfOk result (λ seen. seen ≡ (checked_kind kind.now).seen (environment_of environment.now) visible.old) }
+    ensures found { OnOk result (first.new ≡ least first.old ((checked_kind kind.now).faults span (environment_of environment.now) visible.old context)) }
     ensures same { OnOk result (visible.new ≡ visible.old) }
 {
     match kind {
         ExprKind::Number(_) => Ok(value(Typing::Typed(PvType::Int), false)),
         ExprKind::Truth(_) => Ok(value(Typing::Typed(PvType::Truth), false)),
         ExprKind::Null => Ok(value(Typing::Typed(PvType::Null), false)),
-        ExprKind::This => Ok(around.this()),
-        ExprKind::Result => Ok(result_part(span, around, context, first)),
-        ExprKind::Var(word) => Ok(name(*word, around, context, visible, first)),
-        ExprKind::Field(e, word) => field(e.get(), *word, around, context, visible, first),
+        ExprKind::This => Ok(environment.this()),
+        ExprKind::Result => Ok(result_part(span, environment, context, first)),
+        ExprKind::Var(word) => Ok(name(*word, environment, context, visible, first)),
+        ExprKind::Field(e, word) => field(e.get(), *word, environment, context, visible, first),
         ExprKind::Index(e, at) => {
-            let array = part(e.get(), around, context, Need::AnArray, visible, first)?;
-            let index = part(at.get(), around, context, AN_INT, visible, first)?;
+            let array = part(e.get(), environment, context, Need::AnArray, visible, first)?;
+            let index = part(at.get(), environment, context, AN_INT, visible, first)?;
             Ok(element(array, index))
         }
-        ExprKind::Not(e) => negation(e.get(), around, context, visible, first),
-        ExprKind::Minus(e) => opposite(e.get(), around, context, visible, first),
+        ExprKind::Not(e) => negation(e.get(), environment, context, visible, first),
+        ExprKind::Minus(e) => opposite(e.get(), environment, context, visible, first),
         ExprKind::Binary(operator, a, b) => {
             let need = need_of_operator(*operator);
             let pure = under_left(*operator, context);
-            let left = part(a.get(), around, pure, need, visible, first)?;
+            let left = part(a.get(), environment, pure, need, visible, first)?;
             let pure = under_right(*operator, context);
-            let right = part(b.get(), around, pure, need, visible, first)?;
+            let right = part(b.get(), environment, pure, need, visible, first)?;
             Ok(binary(*operator, left, right))
         }
-        ExprKind::Old(e) => old(e.get(), span, around, context, visible, first),
+        ExprKind::Old(e) => old(e.get(), span, environment, context, visible, first),
         ExprKind::Perm(e, part, whole, amount) => {
             note_if(context.pure, first, Rule::NotPure, span);
             note_unless(is_amount(*part, *whole), first, Rule::BadFraction, *amount);
-            location(e.get(), around, context, visible, first)
+            location(e.get(), environment, context, visible, first)
         }
         ExprKind::Token(token, e) => {
             note_if(context.pure, first, Rule::NotPure, span);
-            role(*token, e.get(), around, context, visible, first)
+            role(*token, e.get(), environment, context, visible, first)
         }
         ExprKind::Instance(target, word, args) => {
             note_if(context.pure, first, Rule::NotPure, span);
             let pure = purely(context);
             match target {
                 None => instance(
-                    around.this(),
+                    environment.this(),
                     *word,
                     args.as_slice(),
-                    around,
+                    environment,
                     pure,
                     visible,
                     first,
                 ),
                 Some(e) => {
-                    let object = part(e.get(), around, pure, Need::AnObject, visible, first)?;
-                    instance(object, *word, args.as_slice(), around, pure, visible, first)
+                    let object = part(e.get(), environment, pure, Need::AnObject, visible, first)?;
+                    instance(
+                        object,
+                        *word,
+                        args.as_slice(),
+                        environment,
+                        pure,
+                        visible,
+                        first,
+                    )
                 }
             }
         }
-        ExprKind::Each(e) => quantified(e, span, around, context, visible, first),
+        ExprKind::Each(e) => quantified(e, span, environment, context, visible, first),
     }
 }
 
 /// `\result`, which stands only in an `ensures` of a method with a result type.
-fn result_part(span: Span, around: &Around, context: Context, first: &mut Option<Fault>) -> Seen
-    ensures seen { result ≡ seen_of_result (around_of around.now).result }
+fn result_part(
+    span: Span,
+    environment: &Environment,
+    context: Context,
+    first: &mut Option<Fault>,
+) -> Seen
+    ensures seen { result ≡ seen_of_result (environment_of environment.now).result }
     ensures found { first.new ≡ least first.old (broken_unless context.result rule.ResultPlace span) }
 {
     note_unless(context.result, first, Rule::ResultPlace, span);
-    value(typing_or(Typing::Untyped, around.result), false)
+    value(typing_or(Typing::Untyped, environment.result), false)
 }
 
 /// A variable in scope, or a field of `this`.
 fn name(
     word: Word,
-    around: &Around,
+    environment: &Environment,
     context: Context,
     visible: &Visible,
     first: &mut Option<Fault>,
 ) -> Seen
-    ensures seen { result ≡ seen_of_name (around_of around.now) word.name (scoping.variable_named visible.now word.name) }
-    ensures found { first.new ≡ least first.old (faults_of_name (around_of around.now) visible.now context word) }
+    ensures seen { result ≡ seen_of_name (environment_of environment.now) word.name (scoping.variable_named visible.now word.name) }
+    ensures found { first.new ≡ least first.old (faults_of_name (environment_of environment.now) visible.now context word) }
 {
     let variable = visible.variable(word.name);
-    let field = around.own_field(word.name);
+    let field = environment.own_field(word.name);
     let declared = variable.is_some() || field.is_some();
     note_unless(declared, first, Rule::UnknownName, word.span);
     let hidden = !context.locals && visible.is_inner_local(word.name);
@@ -194,25 +209,25 @@ fn name(
 fn field(
     e: &Expr,
     word: Word,
-    around: &Around,
+    environment: &Environment,
     context: Context,
     visible: &mut Visible,
     first: &mut Option<Fault>,
 ) -> Result<Seen, NoMemory>
-    ensures seen { IfOk result (λ seen. seen ≡ (part_in_kind (kind.Field (part_of e.now) word)).seen (around_of around.now) visible.old) }
-    ensures found { OnOk result (first.new ≡ least first.old (faults_of_field (part_of e.now) word (around_of around.now) visible.old context)) }
+    ensures seen { IfOk result (λ seen. seen ≡ (checked_in_kind (kind.Field (checked_expression e.now) word)).seen (environment_of environment.now) visible.old) }
+    ensures found { OnOk result (first.new ≡ least first.old (faults_of_field (checked_expression e.now) word (environment_of environment.now) visible.old context)) }
     ensures same { OnOk result (visible.new ≡ visible.old) }
 {
-    let need = around.need_of_target(word.name);
-    let target = part(e, around, context, need, visible, first)?;
-    let holder = around.holder(target);
+    let need = environment.need_of_target(word.name);
+    let target = part(e, environment, context, need, visible, first)?;
+    let holder = environment.holder(target);
     note_if(
         holder.lacks_field(word.name),
         first,
         Rule::UnknownName,
         word.span,
     );
-    let length = around.is_array_length(word.name, target.typing);
+    let length = environment.is_array_length(word.name, target.typing);
     let typing = if length {
         Typing::Typed(PvType::Int)
     } else {
@@ -244,32 +259,32 @@ pub(crate) fn binary(operator: Operator, left: Seen, right: Seen) -> Seen
 #[cycle(part)]
 fn negation(
     e: &Expr,
-    around: &Around,
+    environment: &Environment,
     context: Context,
     visible: &mut Visible,
     first: &mut Option<Fault>,
 ) -> Result<Seen, NoMemory>
-    ensures seen { IfOk result (λ seen. seen ≡ (part_in_kind (kind.Not (part_of e.now))).seen (around_of around.now) visible.old) }
-    ensures found { OnOk result (first.new ≡ least first.old ((part_of e.now).faults (around_of around.now) visible.old (typing.purely context) (need.Exactly pv.Truth))) }
+    ensures seen { IfOk result (λ seen. seen ≡ (checked_in_kind (kind.Not (checked_expression e.now))).seen (environment_of environment.now) visible.old) }
+    ensures found { OnOk result (first.new ≡ least first.old ((checked_expression e.now).faults (environment_of environment.now) visible.old (typing.purely context) (need.Exactly pv.Truth))) }
     ensures same { OnOk result (visible.new ≡ visible.old) }
 {
-    let truth = part(e, around, purely(context), A_TRUTH, visible, first)?;
+    let truth = part(e, environment, purely(context), A_TRUTH, visible, first)?;
     Ok(of_part(truth, A_TRUTH, PvType::Truth))
 }
 
 #[cycle(part)]
 fn opposite(
     e: &Expr,
-    around: &Around,
+    environment: &Environment,
     context: Context,
     visible: &mut Visible,
     first: &mut Option<Fault>,
 ) -> Result<Seen, NoMemory>
-    ensures seen { IfOk result (λ seen. seen ≡ (part_in_kind (kind.Minus (part_of e.now))).seen (around_of around.now) visible.old) }
-    ensures found { OnOk result (first.new ≡ least first.old ((part_of e.now).faults (around_of around.now) visible.old context (need.Exactly pv.Int))) }
+    ensures seen { IfOk result (λ seen. seen ≡ (checked_in_kind (kind.Minus (checked_expression e.now))).seen (environment_of environment.now) visible.old) }
+    ensures found { OnOk result (first.new ≡ least first.old ((checked_expression e.now).faults (environment_of environment.now) visible.old context (need.Exactly pv.Int))) }
     ensures same { OnOk result (visible.new ≡ visible.old) }
 {
-    let number = part(e, around, context, AN_INT, visible, first)?;
+    let number = part(e, environment, context, AN_INT, visible, first)?;
     Ok(of_part(number, AN_INT, PvType::Int))
 }
 
@@ -278,16 +293,23 @@ fn opposite(
 fn old(
     e: &Expr,
     span: Span,
-    around: &Around,
+    environment: &Environment,
     context: Context,
     visible: &mut Visible,
     first: &mut Option<Fault>,
 ) -> Result<Seen, NoMemory>
-    ensures seen { IfOk result (λ seen. seen ≡ (part_in_kind (kind.Old (part_of e.now))).seen (around_of around.now) visible.old) }
-    ensures found { OnOk result (first.new ≡ least first.old (faults_of_old (part_of e.now) span (around_of around.now) visible.old context)) }
+    ensures seen { IfOk result (λ seen. seen ≡ (checked_in_kind (kind.Old (checked_expression e.now))).seen (environment_of environment.now) visible.old) }
+    ensures found { OnOk result (first.new ≡ least first.old (faults_of_old (checked_expression e.now) span (environment_of environment.now) visible.old context)) }
     ensures same { OnOk result (visible.new ≡ visible.old) }
 {
-    let now = part(e, around, purely(context), Need::Anything, visible, first)?;
+    let now = part(
+        e,
+        environment,
+        purely(context),
+        Need::Anything,
+        visible,
+        first,
+    )?;
     note_if(!context.old || now.local, first, Rule::OldPlace, span);
     Ok(value(typing_of_old(now.typing), now.local))
 }
@@ -296,16 +318,16 @@ fn old(
 #[cycle(part)]
 fn location(
     e: &Expr,
-    around: &Around,
+    environment: &Environment,
     context: Context,
     visible: &mut Visible,
     first: &mut Option<Fault>,
 ) -> Result<Seen, NoMemory>
-    ensures seen { IfOk result (λ seen. seen ≡ value_seen (typing.typed_if (typing.is_typed ((part_of e.now).seen (around_of around.now) visible.old).typing) pv.Truth) ((part_of e.now).seen (around_of around.now) visible.old).local) }
-    ensures found { OnOk result (first.new ≡ least first.old (faults_of_location (part_of e.now) (around_of around.now) visible.old context)) }
+    ensures seen { IfOk result (λ seen. seen ≡ value_seen (typing.typed_if (typing.is_typed ((checked_expression e.now).seen (environment_of environment.now) visible.old).typing) pv.Truth) ((checked_expression e.now).seen (environment_of environment.now) visible.old).local) }
+    ensures found { OnOk result (first.new ≡ least first.old (faults_of_location (checked_expression e.now) (environment_of environment.now) visible.old context)) }
     ensures same { OnOk result (visible.new ≡ visible.old) }
 {
-    let place = part(e, around, context, Need::Anything, visible, first)?;
+    let place = part(e, environment, context, Need::Anything, visible, first)?;
     note_unless(place.location, first, Rule::NotALocation, e.span);
     Ok(of_part(place, Need::Anything, PvType::Truth))
 }
@@ -315,18 +337,18 @@ fn location(
 fn role(
     token: Token,
     e: &Expr,
-    around: &Around,
+    environment: &Environment,
     context: Context,
     visible: &mut Visible,
     first: &mut Option<Fault>,
 ) -> Result<Seen, NoMemory>
-    ensures seen { IfOk result (λ seen. seen ≡ (part_in_kind (kind.Token token (part_of e.now))).seen (around_of around.now) visible.old) }
-    ensures found { OnOk result (first.new ≡ least first.old (faults_of_role token (part_of e.now) (around_of around.now) visible.old context)) }
+    ensures seen { IfOk result (λ seen. seen ≡ (checked_in_kind (kind.Token token (checked_expression e.now))).seen (environment_of environment.now) visible.old) }
+    ensures found { OnOk result (first.new ≡ least first.old (faults_of_role token (checked_expression e.now) (environment_of environment.now) visible.old context)) }
     ensures same { OnOk result (visible.new ≡ visible.old) }
 {
-    let object = part(e, around, context, Need::AnObject, visible, first)?;
+    let object = part(e, environment, context, Need::AnObject, visible, first)?;
     note_if(
-        around.lacks_role(token, object),
+        environment.lacks_role(token, object),
         first,
         Rule::NoRole,
         e.span,
@@ -339,13 +361,13 @@ fn role(
 fn quantified(
     e: &Each,
     span: Span,
-    around: &Around,
+    environment: &Environment,
     context: Context,
     visible: &mut Visible,
     first: &mut Option<Fault>,
 ) -> Result<Seen, NoMemory>
-    ensures seen { IfOk result (λ seen. seen ≡ (part_of_each e.now).seen (around_of around.now) visible.old) }
-    ensures found { OnOk result (first.new ≡ least first.old ((part_of_each e.now).faults span (around_of around.now) visible.old context)) }
+    ensures seen { IfOk result (λ seen. seen ≡ (checked_each e.now).seen (environment_of environment.now) visible.old) }
+    ensures found { OnOk result (first.new ≡ least first.old ((checked_each e.now).faults span (environment_of environment.now) visible.old context)) }
     ensures same { OnOk result (visible.new ≡ visible.old) }
 {
     note_if(e.star && context.pure, first, Rule::NotPure, span);
@@ -355,9 +377,15 @@ fn quantified(
         Rule::Shadows,
         e.name.span,
     );
-    let low = part(e.low.get(), around, context, AN_INT, visible, first)?;
-    let high = part(e.high.get(), around, context, AN_INT, visible, first)?;
-    let body = quantified_body(e, around, under_quantifier(e.star, context), visible, first)?;
+    let low = part(e.low.get(), environment, context, AN_INT, visible, first)?;
+    let high = part(e.high.get(), environment, context, AN_INT, visible, first)?;
+    let body = quantified_body(
+        e,
+        environment,
+        under_quantifier(e.star, context),
+        visible,
+        first,
+    )?;
     note_written(e.name.name, &e.written, first);
     Ok(quantified_seen(low, high, body))
 }
@@ -365,13 +393,13 @@ fn quantified(
 #[cycle(part)]
 fn quantified_body(
     e: &Each,
-    around: &Around,
+    environment: &Environment,
     context: Context,
     visible: &mut Visible,
     first: &mut Option<Fault>,
 ) -> Result<Seen, NoMemory>
-    ensures seen { IfOk result (λ seen. seen ≡ (part_of (out-Each e.now).body).seen (around_of around.now) (with_bound visible.old (out-Each e.now).name)) }
-    ensures found { OnOk result (first.new ≡ least first.old ((part_of (out-Each e.now).body).faults (around_of around.now) (with_bound visible.old (out-Each e.now).name) context (need.Exactly pv.Truth))) }
+    ensures seen { IfOk result (λ seen. seen ≡ (checked_expression (out-Each e.now).body).seen (environment_of environment.now) (with_bound visible.old (out-Each e.now).name)) }
+    ensures found { OnOk result (first.new ≡ least first.old ((checked_expression (out-Each e.now).body).faults (environment_of environment.now) (with_bound visible.old (out-Each e.now).name) context (need.Exactly pv.Truth))) }
     ensures same { OnOk result (visible.new ≡ visible.old) }
 {
     let mark = visible.mark();
@@ -380,7 +408,7 @@ fn quantified_body(
         kind: PvType::Int,
     };
     visible.declare(e.name.name, bound)?;
-    let body = part(e.body.get(), around, context, A_TRUTH, visible, first)?;
+    let body = part(e.body.get(), environment, context, A_TRUTH, visible, first)?;
     visible.leave(mark);
     Ok(body)
 }

@@ -1,15 +1,14 @@
 ghost use Rattle.std.specs.Prelude.{◌≡◌, not, ◌++◌, [], ◌∷◌, OnOk, IfOk};
-ghost use Rattle.pv_rules.specs.declared.fault.Rule.TheVariants as rules;
-ghost use Rattle.pv_rules.specs.Faults.{least};
-ghost use Rattle.pv_rules.specs.Statements as stated;
+ghost use Rattle.pv_ast.specs.declared.fault.Rule.TheVariants as rules;
+ghost use Rattle.pv_ast.specs.Rules.Faults.{least};
+ghost use Rattle.pv_ast.specs.Rules.Statements as stated;
 ghost use Rattle.pv_types.specs.Walks.{labels_in};
 ghost use Rattle.pv_types.specs.Sets.{HasLabels};
 
 use crate::noting::{note_if, note_unless};
 use crate::sets::NameSet;
-use pv_ast::Word;
+use pv_ast::{Fault, Rule, Word};
 use pv_base::NoMemory;
-use pv_rules::{Fault, Rule};
 use std::alloc::Global;
 
 /// The labels of messages, in the order of the text: those of `send` and those of `recv`.

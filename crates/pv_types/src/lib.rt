@@ -1,11 +1,14 @@
 //! Which static rule a program breaks first, and the type of an expression in a scope.
 #![tactic(auto)]
 
-mod around;
+mod class_table;
 mod classes;
 mod clauses;
+mod environment;
 mod expressions;
 mod labels;
+mod lookup;
+mod member_index;
 mod members;
 mod noting;
 mod ranges;
@@ -17,17 +20,20 @@ mod standing;
 mod statements;
 mod types;
 mod uses;
+mod visible;
 mod walk;
 
 ghost use Rattle.std.specs.Prelude.{◌≡◌, None, OnOk, IfOk, IfErr};
-ghost use Rattle.pv_rules.specs.Faults.{first_of};
-ghost use Rattle.pv_rules.specs.Programs.{KeepsRules, faults_of_program};
+ghost use Rattle.pv_ast.specs.Rules.Faults.{first_of};
+ghost use Rattle.pv_ast.specs.Rules.Programs.{KeepsRules, faults_of_program};
 
+use class_table::{ClassEntry, ClassTable};
 use pv_ast::Program;
+pub use pv_ast::{Fault, Rule, Scope, ScopeVar, ScopeVars};
 use pv_base::{NoMemory, Span};
-pub use pv_rules::{Fault, Rule, Scope, ScopeVar, ScopeVars};
 pub use scoped::type_of;
 use std::alloc::Global;
+use visible::Visible;
 
 /// Why a program has no types: the first static rule that it breaks, and where; or memory ran out.
 #[derive(Clone, Copy, Debug, PartialEq, Eq, Drop)]

@@ -1,8 +1,8 @@
 ghost use Rattle.std.specs.Prelude.{◌≡◌};
-ghost use Rattle.pv_rules.specs.Faults.{least, broken, broken_if, broken_unless, is_before as is_before_of, rule_number as number_of, earlier};
+ghost use Rattle.pv_ast.specs.Rules.Faults.{least, broken, broken_if, broken_unless, is_before as is_before_of, rule_number as number_of, earlier};
 
+use pv_ast::{Fault, Rule};
 use pv_base::Span;
-use pv_rules::{Fault, Rule};
 
 /// The number of a rule.
 fn rule_number(rule: Rule) -> u8

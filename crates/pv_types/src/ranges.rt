@@ -1,33 +1,32 @@
 ghost use Rattle.std.specs.Prelude.{◌≡◌, ◌&&◌, not, OnOk};
 ghost use Rattle.pv_ast.specs.declared.PvType.TheVariants as pv;
-ghost use Rattle.pv_rules.specs.Faults.{least, both};
-ghost use Rattle.pv_rules.specs.declared.scope.Declaration.TheVariants as how;
-ghost use Rattle.pv_rules.specs.Scoping as scoping;
-ghost use Rattle.pv_rules.specs.Statements as stated;
-ghost use Rattle.pv_scopes.specs.Growth.{Extends};
-ghost use Rattle.pv_types.specs.Arounds.{around_of};
+ghost use Rattle.pv_ast.specs.Rules.Faults.{least, both};
+ghost use Rattle.pv_ast.specs.declared.scope.Declaration.TheVariants as how;
+ghost use Rattle.pv_ast.specs.Rules.Scoping as scoping;
+ghost use Rattle.pv_ast.specs.Rules.Statements as stated;
+ghost use Rattle.pv_types.specs.Growth.{Extends};
+ghost use Rattle.pv_types.specs.Environments.{environment_of};
 
-use crate::around::Around;
+use crate::Visible;
+use crate::environment::Environment;
 use crate::noting::note_if;
 use crate::rights::expression;
-use pv_ast::{PvType, Range, Word};
+use pv_ast::{Declaration, Declared, Fault, Need, PvType, Range, Rule, Word};
 use pv_base::NoMemory;
-use pv_rules::{Declaration, Declared, Fault, Need, Rule};
-use pv_scopes::Visible;
 
 /// Notes the faults of the bounds of a range.
 pub(crate) fn bounds(
     range: &Range,
-    around: &Around,
+    environment: &Environment,
     visible: &mut Visible,
     first: &mut Option<Fault>,
 ) -> Result<(), NoMemory>
-    ensures found { OnOk result (first.new ≡ least first.old (stated.faults_of_range (around_of around.now) visible.old range.now)) }
+    ensures found { OnOk result (first.new ≡ least first.old (stated.faults_of_range (environment_of environment.now) visible.old range.now)) }
     ensures same { OnOk result (visible.new ≡ visible.old) }
 {
     let an_int = Need::Exactly(PvType::Int);
-    expression(&range.low, around, an_int, visible, first)?;
-    expression(&range.high, around, an_int, visible, first)
+    expression(&range.low, environment, an_int, visible, first)?;
+    expression(&range.high, environment, an_int, visible, first)
 }
 
 /// Notes a new name that is in scope.

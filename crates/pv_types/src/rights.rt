@@ -1,23 +1,22 @@
 ghost use Rattle.std.specs.Prelude.{◌≡◌, map, IfOk, OnOk, if◌then◌else◌};
-ghost use Rattle.pv_rules.specs.declared.standing.Typing.TheVariants as typings;
+ghost use Rattle.pv_ast.specs.declared.standing.Typing.TheVariants as typings;
 ghost use Rattle.pv_ast.specs.declared.PvType.TheVariants as pv;
-ghost use Rattle.pv_rules.specs.declared.standing.Need.TheVariants as need;
-ghost use Rattle.pv_rules.specs.Faults.{least};
-ghost use Rattle.pv_rules.specs.Typing as typing;
-ghost use Rattle.pv_rules.specs.Parts.{part_of, faults_of_use, faults_of_call as faults_of_call_of, faults_of_instance as faults_of_instance_of, method_in, method_signature};
-ghost use Rattle.pv_rules.specs.Statements as stated;
-ghost use Rattle.pv_types.specs.Arounds.{around_of, members_in};
+ghost use Rattle.pv_ast.specs.declared.standing.Need.TheVariants as need;
+ghost use Rattle.pv_ast.specs.Rules.Faults.{least};
+ghost use Rattle.pv_ast.specs.Rules.Typing as typing;
+ghost use Rattle.pv_ast.specs.Rules.Expressions.{checked_expression, faults_of_use, faults_of_call as faults_of_call_of, faults_of_instance as faults_of_instance_of, method_in, method_signature};
+ghost use Rattle.pv_ast.specs.Rules.Statements as stated;
+ghost use Rattle.pv_types.specs.Environments.{environment_of, members_in};
 
-use crate::around::{Around, Holder, Signature};
+use crate::Visible;
+use crate::environment::{Environment, Holder, Signature};
 use crate::expressions::part;
 use crate::noting::note_unless;
 use crate::standing::in_statement;
 use crate::types::{meets, note_wrong_type, typed_if, typing_of_new_array};
 use crate::uses::{instance, member_use, object};
-use pv_ast::{Expr, Method, PvType, Right, RightKind, TypeWord, Word};
+use pv_ast::{Expr, Fault, Method, Need, PvType, Right, RightKind, Rule, TypeWord, Typing, Word};
 use pv_base::{NoMemory, Span};
-use pv_rules::{Fault, Need, Rule, Typing};
-use pv_scopes::Visible;
 
 /// A call has the type of its method's result, and none where there is no result.
 fn call_typing(method: &Method, meet: bool) -> Typing
@@ -37,12 +36,12 @@ fn call_on(
     holder: Holder,
     word: Word,
     args: &[Expr],
-    around: &Around,
+    environment: &Environment,
     visible: &mut Visible,
     first: &mut Option<Fault>,
 ) -> Result<Typing, NoMemory>
-    ensures typing { IfOk result (λ found. found ≡ stated.typing_of_call (around_of around.now) visible.old (map part_of args.now) (method_in (members_in holder.entry) word.name)) }
-    ensures found { OnOk result (first.new ≡ least first.old (faults_of_use word (map part_of args.now) (method_signature (members_in holder.entry) word.name) (around_of around.now) visible.old stated.in_statement)) }
+    ensures typing { IfOk result (λ found. found ≡ stated.typing_of_call (environment_of environment.now) visible.old (map checked_expression args.now) (method_in (members_in holder.entry) word.name)) }
+    ensures found { OnOk result (first.new ≡ least first.old (faults_of_use word (map checked_expression args.now) (method_signature (members_in holder.entry) word.name) (environment_of environment.now) visible.old stated.in_statement)) }
     ensures same { OnOk result (visible.new ≡ visible.old) }
 {
     let context = in_statement();
@@ -52,7 +51,7 @@ fn call_on(
                 word,
                 args,
                 Signature::Unsought,
-                around,
+                environment,
                 context,
                 visible,
                 first,
@@ -64,7 +63,7 @@ fn call_on(
                 word,
                 args,
                 Signature::Unknown,
-                around,
+                environment,
                 context,
                 visible,
                 first,
@@ -77,7 +76,7 @@ fn call_on(
                     word,
                     args,
                     Signature::Unknown,
-                    around,
+                    environment,
                     context,
                     visible,
                     first,
@@ -86,7 +85,7 @@ fn call_on(
             }
             Some(method) => {
                 let known = Signature::Known(method.params.as_slice());
-                let seen = member_use(word, args, known, around, context, visible, first)?;
+                let seen = member_use(word, args, known, environment, context, visible, first)?;
                 Ok(call_typing(method, seen.meet))
             }
         },
@@ -98,16 +97,23 @@ pub(crate) fn call(
     target: &Option<Expr>,
     word: Word,
     args: &[Expr],
-    around: &Around,
+    environment: &Environment,
     visible: &mut Visible,
     first: &mut Option<Fault>,
 ) -> Result<Typing, NoMemory>
-    ensures typing { IfOk result (λ found. found ≡ stated.typing_of_call (around_of around.now) visible.old (stated.parts_of args.now) (stated.called_method (around_of around.now) visible.old (stated.part_of_option target.now) word.name)) }
-    ensures found { OnOk result (first.new ≡ least first.old (faults_of_call_of (stated.part_of_option target.now) word (stated.parts_of args.now) (around_of around.now) visible.old stated.in_statement)) }
+    ensures typing { IfOk result (λ found. found ≡ stated.typing_of_call (environment_of environment.now) visible.old (stated.parts_of args.now) (stated.called_method (environment_of environment.now) visible.old (stated.checked_option target.now) word.name)) }
+    ensures found { OnOk result (first.new ≡ least first.old (faults_of_call_of (stated.checked_option target.now) word (stated.parts_of args.now) (environment_of environment.now) visible.old stated.in_statement)) }
     ensures same { OnOk result (visible.new ≡ visible.old) }
 {
-    let object = object(target, around, in_statement(), visible, first)?;
-    call_on(around.holder(object), word, args, around, visible, first)
+    let object = object(target, environment, in_statement(), visible, first)?;
+    call_on(
+        environment.holder(object),
+        word,
+        args,
+        environment,
+        visible,
+        first,
+    )
 }
 
 /// Notes the faults of an instance that is folded or unfolded.
@@ -115,30 +121,38 @@ pub(crate) fn fold(
     target: &Option<Expr>,
     word: Word,
     args: &[Expr],
-    around: &Around,
+    environment: &Environment,
     visible: &mut Visible,
     first: &mut Option<Fault>,
 ) -> Result<(), NoMemory>
-    ensures found { OnOk result (first.new ≡ least first.old (faults_of_instance_of (stated.part_of_option target.now) word (stated.parts_of args.now) (around_of around.now) visible.old stated.in_statement)) }
+    ensures found { OnOk result (first.new ≡ least first.old (faults_of_instance_of (stated.checked_option target.now) word (stated.parts_of args.now) (environment_of environment.now) visible.old stated.in_statement)) }
     ensures same { OnOk result (visible.new ≡ visible.old) }
 {
-    let object = object(target, around, in_statement(), visible, first)?;
-    instance(object, word, args, around, in_statement(), visible, first)?;
+    let object = object(target, environment, in_statement(), visible, first)?;
+    instance(
+        object,
+        word,
+        args,
+        environment,
+        in_statement(),
+        visible,
+        first,
+    )?;
     Ok(())
 }
 
 /// Notes the faults of an expression of a statement, of which a type is needed.
 pub(crate) fn expression(
     e: &Expr,
-    around: &Around,
+    environment: &Environment,
     need: Need,
     visible: &mut Visible,
     first: &mut Option<Fault>,
 ) -> Result<(), NoMemory>
-    ensures found { OnOk result (first.new ≡ least first.old (stated.faults_of_expression (around_of around.now) visible.old need e.now)) }
+    ensures found { OnOk result (first.new ≡ least first.old (stated.faults_of_expression (environment_of environment.now) visible.old need e.now)) }
     ensures same { OnOk result (visible.new ≡ visible.old) }
 {
-    part(e, around, in_statement(), need, visible, first)?;
+    part(e, environment, in_statement(), need, visible, first)?;
     Ok(())
 }
 
@@ -146,16 +160,16 @@ pub(crate) fn expression(
 fn new_array(
     element: TypeWord,
     length: &Expr,
-    around: &Around,
+    environment: &Environment,
     visible: &mut Visible,
     first: &mut Option<Fault>,
 ) -> Result<Typing, NoMemory>
-    ensures typing { IfOk result (λ found. found ≡ (if typing.meets (need.Exactly pv.Int) ((part_of length.now).seen (around_of around.now) visible.old).typing then stated.typing_of_array element.kind else typings.Unsettled)) }
-    ensures found { OnOk result (first.new ≡ least first.old (stated.faults_of_expression (around_of around.now) visible.old (need.Exactly pv.Int) length.now)) }
+    ensures typing { IfOk result (λ found. found ≡ (if typing.meets (need.Exactly pv.Int) ((checked_expression length.now).seen (environment_of environment.now) visible.old).typing then stated.typing_of_array element.kind else typings.Unsettled)) }
+    ensures found { OnOk result (first.new ≡ least first.old (stated.faults_of_expression (environment_of environment.now) visible.old (need.Exactly pv.Int) length.now)) }
     ensures same { OnOk result (visible.new ≡ visible.old) }
 {
     let an_int = Need::Exactly(PvType::Int);
-    let seen = part(length, around, in_statement(), an_int, visible, first)?;
+    let seen = part(length, environment, in_statement(), an_int, visible, first)?;
     if meets(an_int, seen.typing) {
         Ok(typing_of_new_array(element.kind))
     } else {
@@ -166,30 +180,30 @@ fn new_array(
 /// Notes the faults of a right side, of which a type is needed.
 pub(crate) fn right(
     value: &Right,
-    around: &Around,
+    environment: &Environment,
     need: Need,
     visible: &mut Visible,
     first: &mut Option<Fault>,
 ) -> Result<(), NoMemory>
-    ensures found { OnOk result (first.new ≡ least first.old (stated.faults_of_right (around_of around.now) visible.old need value.now)) }
+    ensures found { OnOk result (first.new ≡ least first.old (stated.faults_of_right (environment_of environment.now) visible.old need value.now)) }
     ensures same { OnOk result (visible.new ≡ visible.old) }
 {
     match &value.kind {
-        RightKind::Value(e) => expression(e, around, need, visible, first),
+        RightKind::Value(e) => expression(e, environment, need, visible, first),
         RightKind::Call(target, word, args) => {
-            let typing = call(target, *word, args.as_slice(), around, visible, first)?;
+            let typing = call(target, *word, args.as_slice(), environment, visible, first)?;
             note_wrong_type(need, typing, first, value.span);
             Ok(())
         }
         RightKind::NewObject(word) => {
-            let declared = around.is_class(word.name);
+            let declared = environment.is_class(word.name);
             note_unless(declared, first, Rule::UnknownName, word.span);
             let typing = typed_if(declared, PvType::Object(word.name));
             note_wrong_type(need, typing, first, value.span);
             Ok(())
         }
         RightKind::NewArray(element, length) => {
-            let typing = new_array(*element, length, around, visible, first)?;
+            let typing = new_array(*element, length, environment, visible, first)?;
             note_wrong_type(need, typing, first, value.span);
             Ok(())
         }
@@ -199,17 +213,17 @@ pub(crate) fn right(
 /// Notes the faults of a local's first value, if it has one.
 pub(crate) fn first_value(
     value: &Option<Right>,
-    around: &Around,
+    environment: &Environment,
     need: Need,
     visible: &mut Visible,
     first: &mut Option<Fault>,
 ) -> Result<(), NoMemory>
-    ensures found { OnOk result (first.new ≡ least first.old (stated.faults_of_first_value (around_of around.now) visible.old need value.now)) }
+    ensures found { OnOk result (first.new ≡ least first.old (stated.faults_of_first_value (environment_of environment.now) visible.old need value.now)) }
     ensures same { OnOk result (visible.new ≡ visible.old) }
 {
     match value {
         None => Ok(()),
-        Some(value) => right(value, around, need, visible, first),
+        Some(value) => right(value, environment, need, visible, first),
     }
 }
 

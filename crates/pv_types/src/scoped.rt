@@ -1,20 +1,22 @@
 ghost use Rattle.std.specs.Prelude.{◌≡◌, ◌||◌, ◌&&◌, map, Some, None, Option};
 ghost use Rattle.std.specs.Option.{option_map};
 ghost use Rattle.pv_ast.specs.declared.Each.{out-Each};
-ghost use Rattle.pv_rules.specs.Scoping as scoping;
-ghost use Rattle.pv_rules.specs.Parts as parts;
-ghost use Rattle.pv_rules.specs.Parts.{part_of, part_of_kind, part_of_each, args_meet, args_name_local, types_of};
-ghost use Rattle.pv_rules.specs.Programs.{around_in, visible_in, type_in_scope};
+ghost use Rattle.pv_ast.specs.Rules.Scoping as scoping;
+ghost use Rattle.pv_ast.specs.Rules.Expressions as parts;
+ghost use Rattle.pv_ast.specs.Rules.Expressions.{checked_expression, checked_kind, checked_each, args_meet, args_name_local, types_of};
+ghost use Rattle.pv_ast.specs.Rules.Programs.{environment_in, visible_in, type_in_scope};
 
 use crate::expressions::{
     A_TRUTH, AN_INT, binary, element, of_part, place, quantified_seen, value,
 };
+use crate::lookup;
 use crate::types::{meets, type_of_typing, typed_if, typing_of_old, typing_or};
 use crate::uses::{ArgsSeen, has_type, next_type};
-use pv_ast::{Class, Each, Expr, ExprKind, Param, Program, PvType};
+use pv_ast::{
+    Class, Declaration, Declared, Each, Expr, ExprKind, Need, Param, Program, PvType, Scope,
+    ScopeVar, Seen, Typing,
+};
 use pv_base::Name;
-use pv_rules::{Declaration, Declared, Need, Scope, ScopeVar, Seen, Typing};
-use pv_scopes::lookup;
 
 /// The variables of the quantifiers around, the innermost first.
 #[cycle(bounds)]
@@ -78,7 +80,7 @@ fn declared(name: Name, scope: &Scope, bounds: Option<&Bounds>) -> Option<Declar
 
 /// The class of an object: `this` has the class of the scope, another object the first class of its type's name.
 fn class_of<'a>(program: &'a Program, scope: &Scope, this: bool, name: Name) -> Option<&'a Class>
-    ensures { option_map (λ c. c.now) result ≡ parts.class_of (around_in program.now scope.now) this name }
+    ensures { option_map (λ c. c.now) result ≡ parts.class_of (environment_in program.now scope.now) this name }
 {
     let classes = program.classes.as_slice();
     if this {
@@ -90,7 +92,7 @@ fn class_of<'a>(program: &'a Program, scope: &Scope, this: bool, name: Name) -> 
 
 /// The class that a part has, where it is declared.
 fn declared_class<'a>(program: &'a Program, scope: &Scope, seen: Seen) -> Option<&'a Class>
-    ensures { option_map (λ c. c.now) result ≡ parts.class_of_typing (around_in program.now scope.now) seen.this seen.typing }
+    ensures { option_map (λ c. c.now) result ≡ parts.class_of_typing (environment_in program.now scope.now) seen.this seen.typing }
 {
     match seen.typing {
         Typing::Typed(kind) => match kind {
@@ -113,7 +115,7 @@ fn field_type(class: Option<&Class>, name: Name) -> Option<PvType>
 
 /// A variable, or a field of `this`.
 fn named(name: Name, program: &Program, scope: &Scope, bounds: Option<&Bounds>) -> Seen
-    ensures { result ≡ parts.seen_of_name (around_in program.now scope.now) name (scoping.variable_named (visible_under scope.now bounds.entry) name) }
+    ensures { result ≡ parts.seen_of_name (environment_in program.now scope.now) name (scoping.variable_named (visible_under scope.now bounds.entry) name) }
 {
     match declared(name, scope, bounds) {
         Some(found) => match found.declaration {
@@ -127,7 +129,7 @@ fn named(name: Name, program: &Program, scope: &Scope, bounds: Option<&Bounds>) 
 
 /// A field of `this`.
 fn own_field(name: Name, program: &Program, scope: &Scope) -> Seen
-    ensures { result ≡ parts.seen_of_name (around_in program.now scope.now) name None }
+    ensures { result ≡ parts.seen_of_name (environment_in program.now scope.now) name None }
 {
     let class = lookup::class_named(program.classes.as_slice(), scope.class);
     place(typing_or(Typing::Unsettled, field_type(class, name)), false)
@@ -145,7 +147,7 @@ fn is_length(program: &Program, name: Name) -> bool
 
 /// A field of a part, or the length of an array.
 fn member(target: Seen, name: Name, program: &Program, scope: &Scope) -> Seen
-    ensures { result ≡ parts.seen_of_member (around_in program.now scope.now) name target }
+    ensures { result ≡ parts.seen_of_member (environment_in program.now scope.now) name target }
 {
     let length = meets(Need::AnArray, target.typing) && is_length(program, name);
     let typing = if length {
@@ -180,7 +182,7 @@ fn predicate_params<'a>(
     object: Seen,
     name: Name,
 ) -> Option<&'a [Param]>
-    ensures { option_map (λ ps. types_of ps.now) result ≡ taken (parts.predicate_signature (parts.holder_of (around_in program.now scope.now) object) name) }
+    ensures { option_map (λ ps. types_of ps.now) result ≡ taken (parts.predicate_signature (parts.holder_of (environment_in program.now scope.now) object) name) }
 {
     match declared_class(program, scope, object) {
         None => None,
@@ -194,14 +196,14 @@ fn predicate_params<'a>(
 /// What the rules ask of an expression. No memory is taken.
 #[cycle(seen)]
 fn seen(e: &Expr, program: &Program, scope: &Scope, bounds: Option<&Bounds>) -> Seen
-    ensures { result ≡ (part_of e.now).seen (around_in program.now scope.now) (visible_under scope.now bounds.entry) }
+    ensures { result ≡ (checked_expression e.now).seen (environment_in program.now scope.now) (visible_under scope.now bounds.entry) }
 {
     seen_in(&e.kind, program, scope, bounds)
 }
 
 #[cycle(seen)]
 fn seen_in(kind: &ExprKind, program: &Program, scope: &Scope, bounds: Option<&Bounds>) -> Seen
-    ensures { result ≡ (part_of_kind kind.now).seen (around_in program.now scope.now) (visible_under scope.now bounds.entry) }
+    ensures { result ≡ (checked_kind kind.now).seen (environment_in program.now scope.now) (visible_under scope.now bounds.entry) }
 {
     match kind {
         ExprKind::Number(_) => value(Typing::Typed(PvType::Int), false),
@@ -271,7 +273,7 @@ fn seen_in(kind: &ExprKind, program: &Program, scope: &Scope, bounds: Option<&Bo
 /// A quantified formula. Its variable is in scope in its body.
 #[cycle(seen)]
 fn quantified(each: &Each, program: &Program, scope: &Scope, bounds: Option<&Bounds>) -> Seen
-    ensures { result ≡ (part_of_each each.now).seen (around_in program.now scope.now) (visible_under scope.now bounds.entry) }
+    ensures { result ≡ (checked_each each.now).seen (environment_in program.now scope.now) (visible_under scope.now bounds.entry) }
 {
     let low = seen(each.low.get(), program, scope, bounds);
     let high = seen(each.high.get(), program, scope, bounds);
@@ -280,7 +282,7 @@ fn quantified(each: &Each, program: &Program, scope: &Scope, bounds: Option<&Bou
 
 #[cycle(seen)]
 fn quantified_body(each: &Each, program: &Program, scope: &Scope, bounds: Option<&Bounds>) -> Seen
-    ensures { result ≡ (part_of (out-Each each.now).body).seen (around_in program.now scope.now) (parts.with_bound (visible_under scope.now bounds.entry) (out-Each each.now).name) }
+    ensures { result ≡ (checked_expression (out-Each each.now).body).seen (environment_in program.now scope.now) (parts.with_bound (visible_under scope.now bounds.entry) (out-Each each.now).name) }
 {
     let inner = Bounds {
         name: each.name.name,
@@ -299,7 +301,7 @@ fn instance(
     scope: &Scope,
     bounds: Option<&Bounds>,
 ) -> Seen
-    ensures { result ≡ parts.value_seen (parts.typing_of_use (map part_of args.now) (parts.predicate_signature (parts.holder_of (around_in program.now scope.now) object) name) (around_in program.now scope.now) (visible_under scope.now bounds.entry)) (object.local || args_name_local (map part_of args.now) (around_in program.now scope.now) (visible_under scope.now bounds.entry)) }
+    ensures { result ≡ parts.value_seen (parts.typing_of_use (map checked_expression args.now) (parts.predicate_signature (parts.holder_of (environment_in program.now scope.now) object) name) (environment_in program.now scope.now) (visible_under scope.now bounds.entry)) (object.local || args_name_local (map checked_expression args.now) (environment_in program.now scope.now) (visible_under scope.now bounds.entry)) }
 {
     match predicate_params(program, scope, object, name) {
         None => {
@@ -325,8 +327,8 @@ fn arguments(
     scope: &Scope,
     bounds: Option<&Bounds>,
 ) -> ArgsSeen
-    ensures meet { result.meet ≡ args_meet (map part_of args.now) (types_of params.now) (around_in program.now scope.now) (visible_under scope.now bounds.entry) }
-    ensures local { result.local ≡ args_name_local (map part_of args.now) (around_in program.now scope.now) (visible_under scope.now bounds.entry) }
+    ensures meet { result.meet ≡ args_meet (map checked_expression args.now) (types_of params.now) (environment_in program.now scope.now) (visible_under scope.now bounds.entry) }
+    ensures local { result.local ≡ args_name_local (map checked_expression args.now) (environment_in program.now scope.now) (visible_under scope.now bounds.entry) }
 {
     let mut left = params;
     let mut meet = true;

@@ -1,11 +1,10 @@
 ghost use Rattle.std.specs.Prelude.{◌≡◌, ◌&&◌, ◌||◌, true};
-ghost use Rattle.pv_rules.specs.Typing as typing;
-ghost use Rattle.pv_rules.specs.Parts.{under_quantifier as under_quantifier_of};
-ghost use Rattle.pv_rules.specs.Statements as stated;
-ghost use Rattle.pv_rules.specs.Programs.{at_body as at_body_of, in_ensures as in_ensures_of};
+ghost use Rattle.pv_ast.specs.Rules.Typing as typing;
+ghost use Rattle.pv_ast.specs.Rules.Expressions.{under_quantifier as under_quantifier_of};
+ghost use Rattle.pv_ast.specs.Rules.Statements as stated;
+ghost use Rattle.pv_ast.specs.Rules.Programs.{at_body as at_body_of, in_ensures as in_ensures_of};
 
-use pv_ast::Operator;
-use pv_rules::{Context, Spot, Surround};
+use pv_ast::{Context, Operator, StatementContext, Surround};
 
 /// Where a truth value is needed: at any depth under it nothing but what is pure may stand.
 pub(crate) fn purely(context: Context) -> Context
@@ -70,13 +69,13 @@ pub(crate) fn in_condition() -> Context
 }
 
 /// An invariant or an assert: only a method's own body can speak of the state that the method began in.
-pub(crate) fn in_invariant(spot: Spot) -> Context
-    ensures { result ≡ stated.in_invariant spot }
+pub(crate) fn in_invariant(stand: StatementContext) -> Context
+    ensures { result ≡ stated.in_invariant stand }
 {
     Context {
         pure: false,
         result: false,
-        old: spot.method && matches!(spot.surround, Surround::Body),
+        old: stand.method && matches!(stand.surround, Surround::Body),
         locals: true,
     }
 }
@@ -112,10 +111,10 @@ pub(crate) fn is_loop(surround: Surround) -> bool
 }
 
 /// The body of a method, or of `run`.
-pub(crate) fn at_body(method: bool) -> Spot
+pub(crate) fn at_body(method: bool) -> StatementContext
     ensures { result ≡ at_body_of method }
 {
-    Spot {
+    StatementContext {
         method,
         surround: Surround::Body,
         looped: false,
@@ -124,38 +123,38 @@ pub(crate) fn at_body(method: bool) -> Spot
     }
 }
 
-pub(crate) fn in_branch(spot: Spot) -> Spot
-    ensures { result ≡ stated.in_branch spot }
+pub(crate) fn in_branch(stand: StatementContext) -> StatementContext
+    ensures { result ≡ stated.in_branch stand }
 {
-    Spot {
-        method: spot.method,
-        surround: spot.surround,
-        looped: spot.looped,
-        repeated: spot.repeated,
+    StatementContext {
+        method: stand.method,
+        surround: stand.surround,
+        looped: stand.looped,
+        repeated: stand.repeated,
         last: false,
     }
 }
 
-pub(crate) fn in_while(spot: Spot) -> Spot
-    ensures { result ≡ stated.in_while spot }
+pub(crate) fn in_while(stand: StatementContext) -> StatementContext
+    ensures { result ≡ stated.in_while stand }
 {
-    Spot {
-        method: spot.method,
-        surround: spot.surround,
-        looped: spot.looped,
+    StatementContext {
+        method: stand.method,
+        surround: stand.surround,
+        looped: stand.looped,
         repeated: true,
         last: false,
     }
 }
 
 /// In a par block or a counted loop.
-pub(crate) fn among_members(surround: Surround, spot: Spot) -> Spot
-    ensures { result ≡ stated.among_members surround spot }
+pub(crate) fn among_members(surround: Surround, stand: StatementContext) -> StatementContext
+    ensures { result ≡ stated.among_members surround stand }
 {
-    Spot {
-        method: spot.method,
+    StatementContext {
+        method: stand.method,
         surround,
-        looped: spot.looped || is_loop(surround),
+        looped: stand.looped || is_loop(surround),
         repeated: false,
         last: false,
     }

@@ -1,12 +1,11 @@
 ghost use Rattle.std.specs.Prelude.{◌≡◌, ◌&&◌, ◌||◌, not, if◌then◌else◌};
-ghost use Rattle.pv_rules.specs.Faults.{least};
-ghost use Rattle.pv_rules.specs.Typing as typing;
-ghost use Rattle.pv_rules.specs.Statements.{need_like as need_like_of, need_of_result as need_of_result_of, typing_of_array};
+ghost use Rattle.pv_ast.specs.Rules.Faults.{least};
+ghost use Rattle.pv_ast.specs.Rules.Typing as typing;
+ghost use Rattle.pv_ast.specs.Rules.Statements.{need_like as need_like_of, need_of_result as need_of_result_of, typing_of_array};
 
 use crate::noting::{note, note_unless};
-use pv_ast::{Operator, PvType};
+use pv_ast::{Fault, Need, Operator, PvType, Rule, Typing};
 use pv_base::Span;
-use pv_rules::{Fault, Need, Rule, Typing};
 
 fn is_array(kind: PvType) -> bool
     ensures { result ≡ typing.is_array kind }

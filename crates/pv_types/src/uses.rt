@@ -1,23 +1,22 @@
 ghost use Rattle.std.specs.Prelude.{◌≡◌, ◌&&◌, ◌||◌, not, map, Some, None, IfOk, OnOk, if◌then◌else◌};
 ghost use Rattle.pv_ast.specs.declared.PvType.TheVariants as pv;
-ghost use Rattle.pv_rules.specs.declared.fault.Rule.TheVariants as rule;
-ghost use Rattle.pv_rules.specs.declared.standing.Typing.TheVariants as typings;
-ghost use Rattle.pv_rules.specs.Faults.{least, both, broken_if};
-ghost use Rattle.pv_rules.specs.Typing as typing;
-ghost use Rattle.pv_rules.specs.Scoping as scoping;
-ghost use Rattle.pv_rules.specs.Statements.{option_type, typing_of_call, part_of_option};
-ghost use Rattle.pv_rules.specs.Parts as parts;
-ghost use Rattle.pv_rules.specs.Parts.{part_of, args_meet, args_name_local, types_of, seen_of_target, faults_of_args, param_types, typing_of_use, value_seen, holder_of, predicate_signature};
-ghost use Rattle.pv_types.specs.Arounds.{around_of, signature_of, IsNextType, has_type as has_type_of};
+ghost use Rattle.pv_ast.specs.declared.fault.Rule.TheVariants as rule;
+ghost use Rattle.pv_ast.specs.declared.standing.Typing.TheVariants as typings;
+ghost use Rattle.pv_ast.specs.Rules.Faults.{least, both, broken_if};
+ghost use Rattle.pv_ast.specs.Rules.Typing as typing;
+ghost use Rattle.pv_ast.specs.Rules.Scoping as scoping;
+ghost use Rattle.pv_ast.specs.Rules.Statements.{option_type, typing_of_call, checked_option};
+ghost use Rattle.pv_ast.specs.Rules.Expressions as parts;
+ghost use Rattle.pv_ast.specs.Rules.Expressions.{checked_expression, args_meet, args_name_local, types_of, seen_of_target, faults_of_args, param_types, typing_of_use, value_seen, holder_of, predicate_signature};
+ghost use Rattle.pv_types.specs.Environments.{environment_of, signature_of, IsNextType, has_type as has_type_of};
 
-use crate::around::{Around, Signature};
+use crate::Visible;
+use crate::environment::{Environment, Signature};
 use crate::expressions::part;
 use crate::noting::note_if;
 use crate::types::{meets, need_of_result, typed_if};
-use pv_ast::{Expr, Method, Param, PvType, Word};
+use pv_ast::{Context, Expr, Fault, Method, Need, Param, PvType, Rule, Seen, Typing, Word};
 use pv_base::NoMemory;
-use pv_rules::{Context, Fault, Need, Rule, Seen, Typing};
-use pv_scopes::Visible;
 
 /// What arguments are: whether each has a type, and its parameter's where there is one; and whether a local variable stands in
 /// one.
@@ -52,14 +51,14 @@ pub(crate) fn has_type(needed: Option<PvType>, found: Typing) -> bool
 fn arguments(
     args: &[Expr],
     params: &[Param],
-    around: &Around,
+    environment: &Environment,
     context: Context,
     visible: &mut Visible,
     first: &mut Option<Fault>,
 ) -> Result<ArgsSeen, NoMemory>
-    ensures meet { IfOk result (λ seen. seen.meet ≡ args_meet (map part_of args.now) (types_of params.now) (around_of around.now) visible.old) }
-    ensures local { IfOk result (λ seen. seen.local ≡ args_name_local (map part_of args.now) (around_of around.now) visible.old) }
-    ensures found { OnOk result (first.new ≡ least first.old (faults_of_args (map part_of args.now) (types_of params.now) (around_of around.now) visible.old context)) }
+    ensures meet { IfOk result (λ seen. seen.meet ≡ args_meet (map checked_expression args.now) (types_of params.now) (environment_of environment.now) visible.old) }
+    ensures local { IfOk result (λ seen. seen.local ≡ args_name_local (map checked_expression args.now) (environment_of environment.now) visible.old) }
+    ensures found { OnOk result (first.new ≡ least first.old (faults_of_args (map checked_expression args.now) (types_of params.now) (environment_of environment.now) visible.old context)) }
     ensures same { OnOk result (visible.new ≡ visible.old) }
 {
     let mut left = params;
@@ -69,7 +68,7 @@ fn arguments(
         let (needed, rest) = next_type(left);
         left = rest;
         let need = need_of_result(needed);
-        let seen = part(arg, around, context, need, visible, first)?;
+        let seen = part(arg, environment, context, need, visible, first)?;
         meet &= has_type(needed, seen.typing);
         local |= seen.local;
     }
@@ -82,24 +81,24 @@ pub(crate) fn member_use(
     word: Word,
     args: &[Expr],
     signature: Signature,
-    around: &Around,
+    environment: &Environment,
     context: Context,
     visible: &mut Visible,
     first: &mut Option<Fault>,
 ) -> Result<ArgsSeen, NoMemory>
-    ensures meet { IfOk result (λ seen. seen.meet ≡ args_meet (map part_of args.now) (param_types (signature_of signature.entry)) (around_of around.now) visible.old) }
-    ensures local { IfOk result (λ seen. seen.local ≡ args_name_local (map part_of args.now) (around_of around.now) visible.old) }
-    ensures found { OnOk result (first.new ≡ least first.old (parts.faults_of_use word (map part_of args.now) (signature_of signature.entry) (around_of around.now) visible.old context)) }
+    ensures meet { IfOk result (λ seen. seen.meet ≡ args_meet (map checked_expression args.now) (param_types (signature_of signature.entry)) (environment_of environment.now) visible.old) }
+    ensures local { IfOk result (λ seen. seen.local ≡ args_name_local (map checked_expression args.now) (environment_of environment.now) visible.old) }
+    ensures found { OnOk result (first.new ≡ least first.old (parts.faults_of_use word (map checked_expression args.now) (signature_of signature.entry) (environment_of environment.now) visible.old context)) }
     ensures same { OnOk result (visible.new ≡ visible.old) }
 {
     match signature {
-        Signature::Unsought => arguments(args, &[], around, context, visible, first),
+        Signature::Unsought => arguments(args, &[], environment, context, visible, first),
         Signature::Unknown => {
             note_if(true, first, Rule::UnknownName, word.span);
-            arguments(args, &[], around, context, visible, first)
+            arguments(args, &[], environment, context, visible, first)
         }
         Signature::Known(params) => {
-            let seen = arguments(args, params, around, context, visible, first)?;
+            let seen = arguments(args, params, environment, context, visible, first)?;
             note_if(
                 args.len() != params.len(),
                 first,
@@ -117,17 +116,17 @@ pub(crate) fn instance(
     object: Seen,
     word: Word,
     args: &[Expr],
-    around: &Around,
+    environment: &Environment,
     context: Context,
     visible: &mut Visible,
     first: &mut Option<Fault>,
 ) -> Result<Seen, NoMemory>
-    ensures seen { IfOk result (λ seen. seen ≡ value_seen (typing_of_use (map part_of args.now) (predicate_signature (holder_of (around_of around.now) object) word.name) (around_of around.now) visible.old) (object.local || args_name_local (map part_of args.now) (around_of around.now) visible.old)) }
-    ensures found { OnOk result (first.new ≡ least first.old (parts.faults_of_predicate_use object word (map part_of args.now) (around_of around.now) visible.old context)) }
+    ensures seen { IfOk result (λ seen. seen ≡ value_seen (typing_of_use (map checked_expression args.now) (predicate_signature (holder_of (environment_of environment.now) object) word.name) (environment_of environment.now) visible.old) (object.local || args_name_local (map checked_expression args.now) (environment_of environment.now) visible.old)) }
+    ensures found { OnOk result (first.new ≡ least first.old (parts.faults_of_predicate_use object word (map checked_expression args.now) (environment_of environment.now) visible.old context)) }
     ensures same { OnOk result (visible.new ≡ visible.old) }
 {
-    let signature = around.holder(object).predicate(word.name);
-    let seen = member_use(word, args, signature, around, context, visible, first)?;
+    let signature = environment.holder(object).predicate(word.name);
+    let seen = member_use(word, args, signature, environment, context, visible, first)?;
     let known = matches!(signature, Signature::Known(_));
     Ok(Seen {
         typing: typed_if(known && seen.meet, PvType::Truth),
@@ -140,17 +139,17 @@ pub(crate) fn instance(
 /// What stands before the name of a method or predicate: an object, or nothing, which means `this`.
 pub(crate) fn object(
     target: &Option<Expr>,
-    around: &Around,
+    environment: &Environment,
     context: Context,
     visible: &mut Visible,
     first: &mut Option<Fault>,
 ) -> Result<Seen, NoMemory>
-    ensures seen { IfOk result (λ seen. seen ≡ seen_of_target (around_of around.now) visible.old (part_of_option target.now)) }
-    ensures found { OnOk result (first.new ≡ least first.old (parts.faults_of_target (around_of around.now) visible.old context (part_of_option target.now))) }
+    ensures seen { IfOk result (λ seen. seen ≡ seen_of_target (environment_of environment.now) visible.old (checked_option target.now)) }
+    ensures found { OnOk result (first.new ≡ least first.old (parts.faults_of_target (environment_of environment.now) visible.old context (checked_option target.now))) }
     ensures same { OnOk result (visible.new ≡ visible.old) }
 {
     match target {
-        None => Ok(around.this()),
-        Some(e) => part(e, around, context, Need::AnObject, visible, first),
+        None => Ok(environment.this()),
+        Some(e) => part(e, environment, context, Need::AnObject, visible, first),
     }
 }

@@ -1,11 +1,11 @@
 ghost use Rattle.std.specs.Prelude.{◌≡◌};
-ghost use Rattle.pv_rules.specs.Scoping.{nothing_visible};
-ghost use Rattle.pv_rules.specs.Statements.{no_messages};
+ghost use Rattle.pv_ast.specs.Rules.Scoping.{nothing_visible};
+ghost use Rattle.pv_ast.specs.Rules.Statements.{no_messages};
 ghost use Rattle.pv_types.specs.Walks.{messages_in, labels_in};
 
+use crate::Visible;
 use crate::labels::Messages;
-use pv_rules::Fault;
-use pv_scopes::Visible;
+use pv_ast::Fault;
 use std::alloc::Global;
 use std::mem;
 

@@ -29,10 +29,12 @@ and_then_assoc (returned z) f g = refl
 and_then_assoc (failed check span) f g = refl
 
 -- the runs of two blocks, one after the other
-run_each-append : (xs ys : List Stmt) (variables : Variables) → run_of_block (xs ++ ys) variables ≡ and_then (run_of_block xs variables) (run_of_block ys)
+run_each-append : (xs ys : List Stmt) (variables : Variables) → run_of_block (xs ++ ys) variables
+    ≡ and_then (run_of_block xs variables) (run_of_block ys)
 run_each-append [] ys variables = refl
 run_each-append (x ∷ xs) ys variables =
-    let step : (v : Variables) → run_of_block (xs ++ ys) v ≡ and_then (run_of_block xs v) (run_of_block ys) = run_each-append xs ys in
+    let step : (v : Variables) → run_of_block (xs ++ ys) v ≡ and_then (run_of_block xs v) (run_of_block ys) =
+    run_each-append xs ys in
     let go : (o : Outcome) → and_then o (run_of_block (xs ++ ys)) ≡ and_then (and_then o (run_of_block xs)) (run_of_block ys) =
     elim [ going v ↦ step v | returned z ↦ refl | failed check span ↦ refl ] in
     go (run_of_stmt x variables)
@@ -44,10 +46,14 @@ rest_of m arguments (returning z) = checked_end m arguments (returned z)
 rest_of m arguments ended = returned (pos 0)
 
 behind_if : (m : Method) (arguments : Arguments) (first second rest : List Stmt) (variables : Variables) (b : Bool)
-    → NeverFails (checked_end m arguments (and_then (cond b (run_of_block first variables) (run_of_block second variables)) (run_of_block rest)))
+    → NeverFails
+    (checked_end m arguments (and_then (cond b (run_of_block first variables) (run_of_block second variables))
+    (run_of_block rest)))
     → NeverFails (rest_of m arguments (cond b (working variables (first ++ rest)) (working variables (second ++ rest))))
-behind_if m arguments first second rest variables true h = subst (λ o. NeverFails (checked_end m arguments o)) (sym (run_each-append first rest variables)) h
-behind_if m arguments first second rest variables false h = subst (λ o. NeverFails (checked_end m arguments o)) (sym (run_each-append second rest variables)) h
+behind_if m arguments first second rest variables true h =
+    subst (λ o. NeverFails (checked_end m arguments o)) (sym (run_each-append first rest variables)) h
+behind_if m arguments first second rest variables false h =
+    subst (λ o. NeverFails (checked_end m arguments o)) (sym (run_each-append second rest variables)) h
 
 behind_assert : (m : Method) (arguments : Arguments) (rest : List Stmt) (variables : Variables) (o : Option Span)
     → NeverFails (checked_end m arguments (and_then (failed_at assert_check o (going variables)) (run_of_block rest)))
@@ -59,25 +65,31 @@ behind_assert m arguments rest variables (Some span) h = absurd (h assert_check 
 behind : (m : Method) (arguments : Arguments) (rest : List Stmt) (variables : Variables) (k : StmtKind-F StmtKind Stmt)
     → NeverFails (checked_end m arguments (and_then (run_in_kind (runs_in k) variables) (run_of_block rest)))
     → NeverFails (rest_of m arguments (thread_behind k variables rest))
-behind m arguments rest variables (StmtKind-F.If condition first second) h = behind_if m arguments first second rest variables (is_true condition variables) h
-behind m arguments rest variables (StmtKind-F.Assert formula) h = (behind_assert m arguments rest variables (broken_of formula (scene_of variables)) h).0
+behind m arguments rest variables (StmtKind-F.If condition first second) h =
+    behind_if m arguments first second rest variables (is_true condition variables) h
+behind m arguments rest variables (StmtKind-F.Assert formula) h =
+    (behind_assert m arguments rest variables (broken_of formula (scene_of variables)) h).0
 behind m arguments rest variables _ h = h
 
 -- a statement at which a check stands holds there
 label_holds : (m : Method) (arguments : Arguments) (rest : List Stmt) (variables : Variables) (k : StmtKind-F StmtKind Stmt)
     → NeverFails (checked_end m arguments (and_then (run_in_kind (runs_in k) variables) (run_of_block rest)))
     → IsWrongAt m arguments (label_at k variables) → ⊥
-label_holds m arguments rest variables (StmtKind-F.Assert formula) h wrong = wrong (behind_assert m arguments rest variables (broken_of formula (scene_of variables)) h).1
+label_holds m arguments rest variables (StmtKind-F.Assert formula) h wrong =
+    wrong (behind_assert m arguments rest variables (broken_of formula (scene_of variables)) h).1
 label_holds m arguments rest variables _ h wrong = wrong
 
 at_layer : (m : Method) (arguments : Arguments) (rest : List Stmt) (variables : Variables) (s : Stmt)
     → NeverFails (rest_of m arguments (working variables (s ∷ rest)))
     → NeverFails (checked_end m arguments (and_then (run_in_kind (runs_in (out-StmtKind s.kind)) variables) (run_of_block rest)))
-at_layer m arguments rest variables s h = subst (λ o. NeverFails (checked_end m arguments (and_then o (run_of_block rest)))) (stmt_layer s variables) h
+at_layer m arguments rest variables s h = subst (λ o. NeverFails (checked_end m arguments (and_then o (run_of_block rest))))
+    (stmt_layer s variables) h
 
-moved_fine : (m : Method) (arguments : Arguments) (t : Thread) → NeverFails (rest_of m arguments t) → NeverFails (rest_of m arguments (moved t))
+moved_fine : (m : Method) (arguments : Arguments) (t : Thread) → NeverFails (rest_of m arguments t)
+    → NeverFails (rest_of m arguments (moved t))
 moved_fine m arguments (working variables []) h = h
-moved_fine m arguments (working variables (s ∷ rest)) h = behind m arguments rest variables (out-StmtKind s.kind) (at_layer m arguments rest variables s h)
+moved_fine m arguments (working variables (s ∷ rest)) h =
+    behind m arguments rest variables (out-StmtKind s.kind) (at_layer m arguments rest variables s h)
 moved_fine m arguments (returning z) h = λ check span e. cc
 moved_fine m arguments ended h = h
 
@@ -88,13 +100,16 @@ end_holds (Some span) z h = absurd (h ensures_check span refl)
 
 not_wrong : (m : Method) (arguments : Arguments) (t : Thread) → NeverFails (rest_of m arguments t) → IsWrong m arguments t → ⊥
 not_wrong m arguments (working variables []) h wrong = wrong
-not_wrong m arguments (working variables (s ∷ rest)) h wrong = label_holds m arguments rest variables (out-StmtKind s.kind) (at_layer m arguments rest variables s h) wrong
+not_wrong m arguments (working variables (s ∷ rest)) h wrong =
+    label_holds m arguments rest variables (out-StmtKind s.kind) (at_layer m arguments rest variables s h) wrong
 not_wrong m arguments (returning z) h wrong = wrong (end_holds (broken_postcondition m arguments z) z h)
 not_wrong m arguments ended h wrong = wrong
 
-pub never_wrong : (m : Method) (arguments : Arguments) (n : ℕ) (t : Thread) → NeverFails (rest_of m arguments t) → IsWrong m arguments (after_moves n t) → ⊥
+pub never_wrong : (m : Method) (arguments : Arguments) (n : ℕ) (t : Thread) → NeverFails (rest_of m arguments t)
+    → IsWrong m arguments (after_moves n t) → ⊥
 never_wrong m arguments zero t h = not_wrong m arguments t h
 never_wrong m arguments (suc n) t h = never_wrong m arguments n (moved t) (moved_fine m arguments t h)
 
 pub safe_program : (p : Program) → NoRunFails p → IsSafe p
-safe_program p fine m is arguments meets n wrong = never_wrong m arguments n (thread_at_start m arguments) (fine m is arguments meets) wrong
+safe_program p fine m is arguments meets n wrong =
+    never_wrong m arguments n (thread_at_start m arguments) (fine m is arguments meets) wrong

@@ -23,9 +23,12 @@ thread_at_start m arguments = working (variables_at_start m.params arguments) m.
 
 -- the thread behind a statement, before the rest
 abbrev pub thread_behind : StmtKind-F StmtKind Stmt → Variables → List Stmt → Thread
-thread_behind (StmtKind-F.Local t name value) variables rest = working (with_variable variables name.name.0 (first_number value variables)) rest
-thread_behind (StmtKind-F.Assign place value) variables rest = working (assigned_to place.kind variables (number_of_right_kind value.kind variables)) rest
-thread_behind (StmtKind-F.If condition first second) variables rest = if is_true condition variables then working variables (first ++ rest) else working variables (second ++ rest)
+thread_behind (StmtKind-F.Local t name value) variables rest =
+    working (with_variable variables name.name.0 (first_number value variables)) rest
+thread_behind (StmtKind-F.Assign place value) variables rest =
+    working (assigned_to place.kind variables (number_of_right_kind value.kind variables)) rest
+thread_behind (StmtKind-F.If condition first second) variables rest = if is_true condition variables then
+    working variables (first ++ rest) else working variables (second ++ rest)
 thread_behind (StmtKind-F.Return value) variables rest = returning (result_number value variables)
 thread_behind _ variables rest = working variables rest
 
@@ -73,4 +76,5 @@ HasMethod p m = (c : Class) × Contains p.classes c × Contains c.members (membe
 -- a program is safe where no thread that begins any of its methods on arguments that meet the precondition comes, in any
 -- number of moves, to stand at a step that is wrong
 abbrev pub IsSafe : Program → Type 0
-IsSafe p = (m : Method) → HasMethod p m → (arguments : Arguments) → Meets m arguments → (n : ℕ) → IsWrong m arguments (after_moves n (thread_at_start m arguments)) → ⊥
+IsSafe p = (m : Method) → HasMethod p m → (arguments : Arguments) → Meets m arguments → (n : ℕ)
+    → IsWrong m arguments (after_moves n (thread_at_start m arguments)) → ⊥

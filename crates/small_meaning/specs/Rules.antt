@@ -97,9 +97,11 @@ scope_behind_each (f ∷ fs) s = scope_then (f s) (scope_behind_each fs)
 -- A local has a name that isn't in scope, and is in scope behind its declaration. What is declared in a block is in scope
 -- only there. A `return` stands nowhere here: only as the last statement of a body.
 abbrev pub scope_in_kind : StmtKind-F (Scope → Option Scope) (Scope → Option Scope) → Scope → Option Scope
-scope_in_kind (StmtKind-F.Local type name value) s = scope_if (not (is_in_scope s name.name.0) && is_first_value s value) (with_local s name.name.0)
+scope_in_kind (StmtKind-F.Local type name value) s =
+    scope_if (not (is_in_scope s name.name.0) && is_first_value s value) (with_local s name.name.0)
 scope_in_kind (StmtKind-F.Assign place value) s = scope_if (is_assignable s place.kind && is_term_kind s value.kind) s
-scope_in_kind (StmtKind-F.If condition first second) s = scope_if (is_formula s false condition && is_some (scope_behind_each first s) && is_some (scope_behind_each second s)) s
+scope_in_kind (StmtKind-F.If condition first second) s =
+    scope_if (is_formula s false condition && is_some (scope_behind_each first s) && is_some (scope_behind_each second s)) s
 scope_in_kind (StmtKind-F.Assert formula) s = scope_if (is_formula s false formula) s
 scope_in_kind _ s = None
 
@@ -157,7 +159,8 @@ is_clause has_result s c = is_formula s (has_result && is_ensures c.kind) c.form
 abbrev pub is_method : Method → Bool
 is_method m =
     let s : Scope = record { parameters = names_of m.params; locals = [] } in
-    are_distinct (names_of m.params) && list_all (is_clause (is_some m.result) s) m.contract.clauses && is_body (is_some m.result) m.body s
+    are_distinct (names_of m.params) && list_all (is_clause (is_some m.result) s) m.contract.clauses
+    && is_body (is_some m.result) m.body s
 
 abbrev pub is_member : Member → Bool
 is_member (member.Field p) = false

@@ -26,7 +26,8 @@ Arguments = ℕ → ℤ
 
 abbrev pub with_parameters : Variables → List Param → ℕ → Arguments → Variables
 with_parameters variables [] place arguments = variables
-with_parameters variables (p ∷ ps) place arguments = with_parameters (with_variable variables p.name.name.0 (arguments place)) ps (suc place) arguments
+with_parameters variables (p ∷ ps) place arguments =
+    with_parameters (with_variable variables p.name.name.0 (arguments place)) ps (suc place) arguments
 
 -- each parameter has its argument
 abbrev pub variables_at_start : List Param → Arguments → Variables
@@ -91,9 +92,12 @@ result_number (Some e) variables = number_of_expr e variables
 -- one statement, with the runs of the blocks in it
 abbrev pub run_in_kind : StmtKind-F (Variables → Outcome) (Variables → Outcome) → Variables → Outcome
 run_in_kind (StmtKind-F.Local t name value) variables = going (with_variable variables name.name.0 (first_number value variables))
-run_in_kind (StmtKind-F.Assign place value) variables = going (assigned_to place.kind variables (number_of_right_kind value.kind variables))
-run_in_kind (StmtKind-F.If condition first second) variables = if is_true condition variables then run_each first variables else run_each second variables
-run_in_kind (StmtKind-F.Assert formula) variables = failed_at assert_check (broken_of formula (scene_of variables)) (going variables)
+run_in_kind (StmtKind-F.Assign place value) variables =
+    going (assigned_to place.kind variables (number_of_right_kind value.kind variables))
+run_in_kind (StmtKind-F.If condition first second) variables = if is_true condition variables then run_each first variables else
+    run_each second variables
+run_in_kind (StmtKind-F.Assert formula) variables =
+    failed_at assert_check (broken_of formula (scene_of variables)) (going variables)
 run_in_kind (StmtKind-F.Return value) variables = returned (result_number value variables)
 run_in_kind _ variables = going variables
 
@@ -122,10 +126,12 @@ is_postcondition Context = true
 -- the first conjunct that is not true of the clauses that are chosen, in their order
 abbrev pub broken_clause : (ClauseKind → Bool) → List Clause → Scene → Option Span
 broken_clause chosen [] s = None
-broken_clause chosen (c ∷ cs) s = if chosen c.kind then first_of_two (broken_of c.formula s) (broken_clause chosen cs s) else broken_clause chosen cs s
+broken_clause chosen (c ∷ cs) s = if chosen c.kind then first_of_two (broken_of c.formula s) (broken_clause chosen cs s) else
+    broken_clause chosen cs s
 
 abbrev pub broken_precondition : Method → Arguments → Option Span
-broken_precondition m arguments = broken_clause is_precondition m.contract.clauses (scene_of (variables_at_start m.params arguments))
+broken_precondition m arguments = broken_clause is_precondition m.contract.clauses
+    (scene_of (variables_at_start m.params arguments))
 
 -- the arguments meet the precondition
 abbrev pub Meets : Method → Arguments → Type 0
@@ -133,7 +139,8 @@ Meets m arguments = broken_precondition m arguments ≡ None
 
 -- the postcondition speaks of the arguments and of the result
 abbrev pub broken_postcondition : Method → Arguments → ℤ → Option Span
-broken_postcondition m arguments z = broken_clause is_postcondition m.contract.clauses (record { variables = variables_at_start m.params arguments; result = z })
+broken_postcondition m arguments z = broken_clause is_postcondition m.contract.clauses
+    (record { variables = variables_at_start m.params arguments; result = z })
 
 -- the end of a run: the postcondition is checked
 abbrev pub checked_end : Method → Arguments → Outcome → Outcome

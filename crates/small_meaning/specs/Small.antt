@@ -151,7 +151,8 @@ is_small_clause c = is_small_expr c.formula
 
 -- the parameters and the result of a method are whole numbers, and its clauses and its body are small
 abbrev pub is_small_method : Method → Bool
-is_small_method m = is_small_result m.result && list_all is_small_param m.params && list_all is_small_clause m.contract.clauses && is_small_block m.body
+is_small_method m = is_small_result m.result && list_all is_small_param m.params && list_all is_small_clause m.contract.clauses
+    && is_small_block m.body
 
 abbrev pub is_small_member : Member → Bool
 is_small_member (member.Field p) = false

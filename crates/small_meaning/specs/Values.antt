@@ -79,7 +79,12 @@ first_of_two None b = b
 first_of_two (Some a) b = Some a
 
 abbrev pub part_of_operator : Operator → Shown → Shown → Part
-part_of_operator op.And a b = record { value = value_of_operator op.And a.value b.value; joined = true; broken = first_of_two a.broken b.broken }
+part_of_operator op.And a b = record {
+  value = value_of_operator op.And a.value b.value;
+  joined = true;
+  broken =
+      first_of_two a.broken b.broken;
+}
 part_of_operator o a b = plain (value_of_operator o a.value b.value)
 
 abbrev pub part_in_kind : ExprKind-F (Scene → Part) (Scene → Part) (Scene → Shown) → Scene → Part

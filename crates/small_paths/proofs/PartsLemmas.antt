@@ -65,18 +65,22 @@ length-literals_of (Open a ∷ ds) = omega (arith, length-literals_of ds)
 length-literals_of (Closed a ∷ ds) = omega (arith, length-literals_of ds)
 
 -- the bound of one more literal
-pub bound_asked : (ds : List Decision) (l : Literal) (n : ℕ) → decisions_bound ds ≤ n → IsBounded n l → bound_of_all (literals_of ds ++ l ∷ []) ≤ n
+pub bound_asked : (ds : List Decision) (l : Literal) (n : ℕ) → decisions_bound ds ≤ n → IsBounded n l
+    → bound_of_all (literals_of ds ++ l ∷ []) ≤ n
 bound_asked ds l n h k = omega (arith, bound_of_all-append (literals_of ds) (l ∷ []), bound_of_bounded n l k, literals_within ds)
 
-pub decisions_bound-push : (ds : List Decision) (d : Decision) → decisions_bound (ds ++ d ∷ []) ≡ max (decisions_bound ds) (decision_bound d)
+pub decisions_bound-push : (ds : List Decision) (d : Decision) → decisions_bound (ds ++ d ∷ [])
+    ≡ max (decisions_bound ds) (decision_bound d)
 decisions_bound-push [] d = omega arith
 decisions_bound-push (a ∷ ds) d = omega (arith, decisions_bound-push ds d)
 
 -- the bound of one more decision
-pub bound_pushed : (ds : List Decision) (d : Decision) (n : ℕ) → decisions_bound ds ≤ n → decision_bound d ≤ n → decisions_bound (ds ++ d ∷ []) ≤ n
+pub bound_pushed : (ds : List Decision) (d : Decision) (n : ℕ) → decisions_bound ds ≤ n → decision_bound d ≤ n
+    → decisions_bound (ds ++ d ∷ []) ≤ n
 bound_pushed ds d n h k = omega (arith, decisions_bound-push ds d)
 
-pub open_bound : (q : Difference) (n : ℕ) → IsBounded n (literal_of q) → IsBounded n (opposite (literal_of q)) → decision_bound (Open q) ≤ n
+pub open_bound : (q : Difference) (n : ℕ) → IsBounded n (literal_of q) → IsBounded n (opposite (literal_of q))
+    → decision_bound (Open q) ≤ n
 open_bound q n h k = omega (arith, bound_of_bounded n (literal_of q) h, bound_of_bounded n (opposite (literal_of q)) k)
 
 pub bound_popped : (ds : List Decision) (d : Decision) (n : ℕ) → decisions_bound (ds ++ d ∷ []) ≤ n → decisions_bound ds ≤ n
@@ -113,7 +117,8 @@ Waits-last v [] d h k = inr k
 Waits-last v (a ∷ ds) d h k = inl (h.0, Waits-last v ds d h.1 k)
 
 -- nothing is lost by a decision of which one side holds
-pub Stands-push : (v : Values) (ds : List Decision) (d : Decision) → (Agrees v ds → On v d ⊎ Off v d) → Stands v ds → Stands v (ds ++ d ∷ [])
+pub Stands-push : (v : Values) (ds : List Decision) (d : Decision) → (Agrees v ds → On v d ⊎ Off v d) → Stands v ds
+    → Stands v (ds ++ d ∷ [])
 unfolding Agrees Waits Stands
 Stands-push v ds d side (inl h) = elim (side h) [ inl k ↦ inl (Agrees-push v ds d h k) | inr k ↦ inr (Waits-last v ds d h k) ]
 Stands-push v ds d side (inr h) = inr (Waits-push v ds d h)
@@ -140,9 +145,11 @@ pub Waits-dropped : (v : Values) (ds : List Decision) (d : Decision) → Waits v
 Waits-dropped v ds d h k = elim (Waits-pop v ds d h) [ inl w ↦ w | inr w ↦ absurd (k w.1) ]
 
 -- a decision is turned over
-pub Waits-turned : (v : Values) (ds : List Decision) (d other : Decision) → Waits v (ds ++ d ∷ []) → (Off v d → On v other) → Stands v (ds ++ other ∷ [])
+pub Waits-turned : (v : Values) (ds : List Decision) (d other : Decision) → Waits v (ds ++ d ∷ []) → (Off v d → On v other)
+    → Stands v (ds ++ other ∷ [])
 unfolding Stands
-Waits-turned v ds d other h k = elim (Waits-pop v ds d h) [ inl w ↦ inr (Waits-push v ds other w) | inr w ↦ inl (Agrees-push v ds other w.0 (k w.1)) ]
+Waits-turned v ds d other h k = elim (Waits-pop v ds d h)
+    [ inl w ↦ inr (Waits-push v ds other w) | inr w ↦ inl (Agrees-push v ds other w.0 (k w.1)) ]
 
 -- nothing waits in an empty list
 pub Waits-empty : (v : Values) (ds : List Decision) → length ds ≡ 0 → Waits v ds → ⊥
@@ -155,13 +162,15 @@ pub one_side : (v : Values) (q : Difference) → On v (Open q) ⊎ Off v (Open q
 one_side v q = by_lt_z (number_of v q.y.0 +ℤ q.bound) (number_of v q.x.0) (λ k. inr (omega (arith, ints))) (λ k. inl k)
 
 -- a decision that stands on the path
-pub Agrees-at : (v : Values) (ds : List Decision) (i : ℕ) (d : Decision) → Agrees v ds → i < length ds → On v (slice_index_or ds i d)
+pub Agrees-at : (v : Values) (ds : List Decision) (i : ℕ) (d : Decision) → Agrees v ds → i < length ds
+    → On v (slice_index_or ds i d)
 unfolding Agrees
 Agrees-at v [] i d h k = absurd (omega arith)
 Agrees-at v (a ∷ ds) zero d h k = h.0
 Agrees-at v (a ∷ ds) (suc i) d h k = Agrees-at v ds i d h.1 (omega arith)
 
-pub Agrees-found : (v : Values) (ds : List Decision) (i : ℕ) (d x : Decision) → slice_index_or ds i d ≡ x → Agrees v ds → i < length ds → On v x
+pub Agrees-found : (v : Values) (ds : List Decision) (i : ℕ) (d x : Decision) → slice_index_or ds i d ≡ x → Agrees v ds
+    → i < length ds → On v x
 Agrees-found v ds i d x is h k = subst (On v) is (Agrees-at v ds i d h k)
 
 On-literal : (v : Values) (d : Decision) → On v d → Holds v (literal_in d)
@@ -169,14 +178,18 @@ On-literal v (Open q) h = h
 On-literal v (Closed q) h = h
 
 -- what the path has itself is answered by it
-pub found_says : (v : Values) (ds : List Decision) (i : ℕ) (d x : Decision) (q : Difference) → slice_index_or ds i d ≡ x → i < length ds → literal_in x ≡ literal_of q → Agrees v ds → Holds v (literal_of q)
+pub found_says : (v : Values) (ds : List Decision) (i : ℕ) (d x : Decision) (q : Difference) → slice_index_or ds i d ≡ x
+    → i < length ds → literal_in x ≡ literal_of q → Agrees v ds → Holds v (literal_of q)
 found_says v ds i d x q is k same h = subst (λ (l : Literal). Holds v l) same (On-literal v x (Agrees-found v ds i d x is h k))
 
-pub found_denies : (v : Values) (ds : List Decision) (i : ℕ) (d x : Decision) (q : Difference) → slice_index_or ds i d ≡ x → i < length ds → literal_in x ≡ opposite (literal_of q) → Agrees v ds → Holds v (literal_of q) → ⊥
-found_denies v ds i d x q is k same h holds = opposite_denies v (literal_of q) (subst (λ (l : Literal). Holds v l) same (On-literal v x (Agrees-found v ds i d x is h k))) holds
+pub found_denies : (v : Values) (ds : List Decision) (i : ℕ) (d x : Decision) (q : Difference) → slice_index_or ds i d ≡ x
+    → i < length ds → literal_in x ≡ opposite (literal_of q) → Agrees v ds → Holds v (literal_of q) → ⊥
+found_denies v ds i d x q is k same h holds = opposite_denies v (literal_of q)
+    (subst (λ (l : Literal). Holds v l) same (On-literal v x (Agrees-found v ds i d x is h k))) holds
 
 -- the bound after a push that may have failed
-pub bound_either : (b : Bool) (new ds : List Decision) (d : Decision) (n : ℕ) → new ≡ cond b (ds ++ d ∷ []) ds → decisions_bound ds ≤ n → decision_bound d ≤ n → decisions_bound new ≤ n
+pub bound_either : (b : Bool) (new ds : List Decision) (d : Decision) (n : ℕ) → new ≡ cond b (ds ++ d ∷ []) ds
+    → decisions_bound ds ≤ n → decision_bound d ≤ n → decisions_bound new ≤ n
 bound_either true new ds d n is h k = rw is (bound_pushed ds d n h k)
 bound_either false new ds d n is h k = rw is h
 

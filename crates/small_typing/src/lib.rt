@@ -2,7 +2,7 @@
 //! nothing.
 #![tactic(auto)]
 
-ghost use Rattle.pv_rules.specs.Programs.{KeepsRules};
+ghost use Rattle.pv_ast.specs.Rules.Programs.{KeepsRules};
 ghost use Rattle.small_meaning.specs.Rules.{KeepsRules as KeepsSmallRules};
 ghost use Rattle.small_meaning.specs.Small.{IsSmall};
 

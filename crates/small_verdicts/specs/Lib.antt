@@ -3,3 +3,4 @@ pub mod Sorted
 pub mod Ends
 pub mod Grounded
 pub mod Searching
+pub mod Units

@@ -4,14 +4,15 @@
 #![tactic(auto)]
 
 mod evaluation;
+mod judging;
 mod method;
 mod running;
 mod store;
 mod verdict;
 
+pub use judging::{Judged, judge};
 use pv_base::Span;
 use sqlite_items::Items;
-pub use verdict::verdict_of;
 
 /// The two checks of small programs.
 #[derive(Clone, Copy, Debug, PartialEq, Eq, Drop)]

@@ -8,22 +8,26 @@ use Rattle.pv_base.specs.declared.NoMemory as no_memory
 use Rattle.vercors.specs.declared.ending.Answer.{Answer}
 use Rattle.vercors.specs.declared.ending.Status.{Status}
 use Rattle.vercors.specs.declared.ending.Status.TheVariants.{Passed, Refused, TextRefused, Splits, WordsWrong, NoFile, ReadFault, WriteFault, TooLarge, NoMemory, WentWrong, ScheduleRefused, Overflow, RangeTooLong}
-use Rattle.vercors.specs.Words.{IsVerify, NoVerify}
-use Rattle.vercors.specs.Output.{usage_line, refusal_line}
+use Rattle.pv_words.specs.Words.{IsVerify, NoVerify}
+use Rattle.pv_report.specs.Output.{refusal_line}
+use Rattle.vercors.specs.Lines.{usage_line}
 use Rattle.vercors.specs.Texts.{SpellsNone}
 use Rattle.vercors.specs.Refusals.{IsRefused, HasOnly}
-use Rattle.vercors.specs.declared.refusing.Refusal.{Refusal}
+use Rattle.pv_report.specs.declared.refusing.Refusal.{Refusal}
 use Rattle.vercors.specs.Loading.{IsFaultAnswer}
 use Rattle.vercors.specs.Answers as answers
-use Rattle.vercors.specs.Answers.{limit, IsOfText, IsShown, IsTextAnswer, ReadsText, IsFileAnswer, told_of, IsAnswer, DeliversWhole, DeliversPart, Delivers, OrYields, ComesExactly}
+use Rattle.pv_tokens.specs.Bytes.{most_bytes}
+use Rattle.vercors.specs.Answers.{IsOfText, IsShown, IsTextAnswer, ReadsText, IsFileAnswer, told_of, IsAnswer, DeliversWhole, DeliversPart, Delivers, OrYields, ComesExactly}
 
 -- what is said of the file of a name is said of what is told of it
-pub told_here : (files : Option NamedBytes) (name : List ℕ) (P : Option (List ℕ) → Type 0) → IfSome files (λ bytes_of. P (bytes_of name)) → IfSome (told_of files name) P
+pub told_here : (files : Option NamedBytes) (name : List ℕ) (P : Option (List ℕ) → Type 0)
+    → IfSome files (λ bytes_of. P (bytes_of name)) → IfSome (told_of files name) P
 told_here None name P h = tt
 told_here (Some bytes_of) name P h = h
 
 -- the answer to a text that is refused
-pub refused_answer : (text : List ℕ) (r : Refusal) (s : Status) (output : List ℕ) → IsRefused text r → HasOnly text r → SpellsNone text → s ≡ TextRefused → output ≡ refusal_line text r → IsTextAnswer text s output
+pub refused_answer : (text : List ℕ) (r : Refusal) (s : Status) (output : List ℕ) → IsRefused text r → HasOnly text r
+    → SpellsNone text → s ≡ TextRefused → output ≡ refusal_line text r → IsTextAnswer text s output
 refused_answer text r s output refused only none e o =
     let Shown : Status → Type 0 = λ t. IsShown text t output in
     record {
@@ -86,9 +90,11 @@ pub file_status : {told : Option (Option (List ℕ))} {s : Status} {output : Lis
 file_status (answers.missing h) = tt
 file_status answers.unread = tt
 file_status (answers.too_large h) = tt
-file_status (answers.read {text} {status} {output} told small a) = of_text_of_file status (shown_of_text text status output a.shown)
+file_status (answers.read {text} {status} {output} told small a) =
+    of_text_of_file status (shown_of_text text status output a.shown)
 
-text_of_file : (files : Option NamedBytes) (words : List (List ℕ)) (file : List ℕ) (s : Status) (output : List ℕ) → IsVerify words file → IsFileAnswer (told_of files file) s output → IsOfText s → ReadsText files words s
+text_of_file : (files : Option NamedBytes) (words : List (List ℕ)) (file : List ℕ) (s : Status) (output : List ℕ)
+    → IsVerify words file → IsFileAnswer (told_of files file) s output → IsOfText s → ReadsText files words s
 text_of_file files words file _ _ w (answers.missing h) k = absurd k
 text_of_file files words file _ _ w answers.unread k = absurd k
 text_of_file files words file _ _ w (answers.too_large h) k = absurd k
@@ -96,24 +102,27 @@ text_of_file files words file _ _ w (answers.read {text} {status} {output} told 
     record { file = file; form = w; text = text; told = told; small = small; is = a.is }
 
 -- what an answer says of a text that was read
-pub text_of_answer : (files : Option NamedBytes) (words : List (List ℕ)) (s : Status) (output : List ℕ) → IsAnswer files words s output → IsOfText s → ReadsText files words s
+pub text_of_answer : (files : Option NamedBytes) (words : List (List ℕ)) (s : Status) (output : List ℕ)
+    → IsAnswer files words s output → IsOfText s → ReadsText files words s
 text_of_answer files words _ _ (answers.usage h) k = absurd k
 text_of_answer files words _ _ (answers.verify {file} {status} {output} w a) k = text_of_file files words file status output w a k
 
 -- an answer whose status and line are known
-pub line_answer : (r : Result Answer no_memory.NoMemory) (s : Status) (line : List ℕ) (P : Status → List ℕ → Type 0) → ((t : Status) (o : List ℕ) → t ≡ s → o ≡ line → P t o)
+pub line_answer : (r : Result Answer no_memory.NoMemory) (s : Status) (line : List ℕ) (P : Status → List ℕ → Type 0)
+    → ((t : Status) (o : List ℕ) → t ≡ s → o ≡ line → P t o)
     → IfOk r (λ a. a.status ≡ s) → IfOk r (λ a. a.output ≡ line) → IfOk r (λ a. P a.status a.output)
 line_answer (Ok a) s line P f h k = f a.status a.output h k
 line_answer (Err e) s line P f h k = tt
 
 -- an answer of which less is said
-pub less_said : (r : Result Answer no_memory.NoMemory) (P Q : Status → List ℕ → Type 0) → ((t : Status) (o : List ℕ) → P t o → Q t o) → IfOk r (λ a. P a.status a.output) → IfOk r (λ a. Q a.status a.output)
+pub less_said : (r : Result Answer no_memory.NoMemory) (P Q : Status → List ℕ → Type 0)
+    → ((t : Status) (o : List ℕ) → P t o → Q t o) → IfOk r (λ a. P a.status a.output) → IfOk r (λ a. Q a.status a.output)
 less_said (Ok a) P Q f h = f a.status a.output h
 less_said (Err e) P Q f h = tt
 
 -- the answer where a file was not loaded
 pub fault_answer : (told : Option (Option (List ℕ))) (e : LoadFault) (s : Status) (output : List ℕ)
-    → IfSome told (λ bytes. Loads bytes limit (Err e)) → IsFaultAnswer e s output → IsFileAnswer told s output
+    → IfSome told (λ bytes. Loads bytes most_bytes (Err e)) → IsFaultAnswer e s output → IsFileAnswer told s output
 fault_answer told fault.NoFile s output h a =
     let P : Status → Type 0 = λ t. IsFileAnswer told t output in
     let Q : List ℕ → Type 0 = λ o. IsFileAnswer told NoFile o in
@@ -129,7 +138,8 @@ fault_answer told fault.Failed s output h a =
 fault_answer told fault.NoMemory s output h a = absurd a
 
 -- the answer to wrong words
-pub usage_answer : (files : Option NamedBytes) (words : List (List ℕ)) (s : Status) (output : List ℕ) → NoVerify words → s ≡ WordsWrong → output ≡ usage_line → IsAnswer files words s output
+pub usage_answer : (files : Option NamedBytes) (words : List (List ℕ)) (s : Status) (output : List ℕ) → NoVerify words
+    → s ≡ WordsWrong → output ≡ usage_line → IsAnswer files words s output
 usage_answer files words s output none e o =
     let P : Status → Type 0 = λ t. IsAnswer files words t output in
     let Q : List ℕ → Type 0 = λ o. IsAnswer files words WordsWrong o in
@@ -157,12 +167,14 @@ of_file_written ScheduleRefused h = tt
 of_file_written Overflow h = tt
 of_file_written RangeTooLong h = tt
 
-pub is_written : {files : Option NamedBytes} {words : List (List ℕ)} {s : Status} {output : List ℕ} → IsAnswer files words s output → IsWritten s
+pub is_written : {files : Option NamedBytes} {words : List (List ℕ)} {s : Status} {output : List ℕ}
+    → IsAnswer files words s output → IsWritten s
 is_written (answers.usage h) = tt
 is_written (answers.verify {file} {status} {output} w a) = of_file_written status (file_status a)
 
 -- an answer that was written whole
-pub delivers_whole : (P : Status → List ℕ → Type 0) (s : Status) (written written' : Option (List ℕ)) → IsWritten s → DeliversWhole P s written written' → Delivers P s written written'
+pub delivers_whole : (P : Status → List ℕ → Type 0) (s : Status) (written written' : Option (List ℕ)) → IsWritten s
+    → DeliversWhole P s written written' → Delivers P s written written'
 delivers_whole P WriteFault written written' k d = absurd k
 delivers_whole P NoMemory written written' k d = absurd k
 delivers_whole P Passed written written' k d = d

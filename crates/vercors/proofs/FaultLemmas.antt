@@ -5,12 +5,14 @@ use Rattle.pv_tokens.specs.declared.Lexeme.{Lexeme}
 use Rattle.pv_reading.specs.Marks.{Tokens, Marked, plain, next_of, place_of}
 use Rattle.pv_reading.specs.Spelled.{Rule, Spells, SpellsWithin, IsUnexpected, IsTooDeep}
 
-pub spelled_not_unexpected : {A : Type 0} (R : Rule A) (limit end : ℕ) (tokens : Tokens) (tree : A) (place : Span) → SpellsWithin R limit tokens tree → IsUnexpected R limit end tokens place → ⊥
+pub spelled_not_unexpected : {A : Type 0} (R : Rule A) (limit end : ℕ) (tokens : Tokens) (tree : A) (place : Span)
+    → SpellsWithin R limit tokens tree → IsUnexpected R limit end tokens place → ⊥
 spelled_not_unexpected R limit end tokens tree place s h =
     let At : Tokens → Type 0 = λ ts. Spells R ts tree in
     h.ends h.rest tree refl (subst At h.split (record { marks = s.marks; here = s.here; spelled = s.spelled }))
 
-pub spelled_not_too_deep : {A : Type 0} (R : Rule A) (limit : ℕ) (tokens : Tokens) (tree : A) (place : Span) → SpellsWithin R limit tokens tree → IsTooDeep R limit tokens place → ⊥
+pub spelled_not_too_deep : {A : Type 0} (R : Rule A) (limit : ℕ) (tokens : Tokens) (tree : A) (place : Span)
+    → SpellsWithin R limit tokens tree → IsTooDeep R limit tokens place → ⊥
 spelled_not_too_deep R limit tokens tree place s h =
     let At : Tokens → Type 0 = λ ts. SpellsWithin R limit ts tree in
     h.none h.rest tree (subst At h.split s)
@@ -40,16 +42,19 @@ cut (x ∷ xs) (y ∷ ys) us vs e =
     by h (second_longer z zs a b) = second_longer z zs (cc) b
 
 -- behind an unexpected place no other one stands
-none_behind : {A : Type 0} (R : Rule A) (limit end : ℕ) (tokens : Tokens) (place other : Span) (h : IsUnexpected R limit end tokens place) (k : IsUnexpected R limit end tokens other)
+none_behind : {A : Type 0} (R : Rule A) (limit end : ℕ) (tokens : Tokens) (place other : Span)
+    (h : IsUnexpected R limit end tokens place) (k : IsUnexpected R limit end tokens other)
     (z : Lexeme) (zs : Tokens) → plain k.front ≡ plain h.front ++ z ∷ zs → h.rest ≡ z ∷ (zs ++ k.rest) → ⊥
 none_behind R limit end tokens place other h k z zs longer rest =
     h.ends (z ∷ (zs ++ plain k.more)) k.tree (sym (ap next_of rest)) (record {
       marks = k.front ++ k.more;
-      here = plain_append k.front k.more ∙ ap (λ (w : Tokens). w ++ plain k.more) longer ∙ append_assoc (plain h.front) (z ∷ zs) (plain k.more);
+      here = plain_append k.front k.more ∙ ap (λ (w : Tokens). w ++ plain k.more) longer
+          ∙ append_assoc (plain h.front) (z ∷ zs) (plain k.more);
       spelled = k.spelled;
     })
 
-pub one_unexpected : {A : Type 0} (R : Rule A) (limit end : ℕ) (tokens : Tokens) (place other : Span) → IsUnexpected R limit end tokens place → IsUnexpected R limit end tokens other → place ≡ other
+pub one_unexpected : {A : Type 0} (R : Rule A) (limit end : ℕ) (tokens : Tokens) (place other : Span)
+    → IsUnexpected R limit end tokens place → IsUnexpected R limit end tokens other → place ≡ other
 one_unexpected R limit end tokens place other h k = by (cut (plain h.front) (plain k.front) h.rest k.rest (sym h.split ∙ k.split))
   where
     by : Cut (plain h.front) (plain k.front) h.rest k.rest → place ≡ other

@@ -1,4 +1,3 @@
-pub mod JudgedLemmas
 pub mod FaultLemmas
 pub mod ProgramLemmas
 pub mod TextLemmas

@@ -15,13 +15,14 @@ use Rattle.small_meaning.specs.Machine.{IsSafe}
 use Rattle.small_verdicts.specs.declared.SmallVerdict.{SmallVerdict}
 use Rattle.small_verdicts.specs.declared.SmallVerdict.TheVariants.{Pass, Empty, Fail}
 use Rattle.small_verdicts.specs.Grounded.{HasGround, check_of}
-use Rattle.vercors.specs.declared.judging.Judged.{Judged}
+use Rattle.small_verdicts.specs.declared.judging.Judged.{Judged}
 use Rattle.vercors.specs.declared.ending.Status.{Status}
 use Rattle.vercors.specs.declared.ending.Status.TheVariants as status
 use Rattle.vercors.specs.Texts.{SpellsSmallProgram, SomeRunFails, SpellsOnly}
 use Rattle.vercors.specs.Refusals.{HasNoRefusal}
-use Rattle.vercors.specs.Units.{MethodUnit, units_of_member, units_of_class, units_of, AreJudged}
-use Rattle.vercors.specs.Output.{is_fail, some_fail, status_of, report_of}
+use Rattle.small_verdicts.specs.Units.{MethodUnit, units_of_member, units_of_class, units_of, AreJudged}
+use Rattle.pv_report.specs.Output.{is_fail, some_fail, report_of}
+use Rattle.vercors.specs.Statuses.{status_of}
 use Rattle.vercors.specs.Answers.{IsTextAnswer, IsShown, Reports}
 
 -- arguments that meet the precondition, on which the run fails
@@ -36,7 +37,13 @@ verdict_fails : (m : Method) (v : SmallVerdict) → HasGround m v → is_fail v 
 verdict_fails m Pass g e = absurd (cc)
 verdict_fails m Empty g e = absurd (cc)
 verdict_fails m (Fail check span numbers) g e =
-    record { arguments = λ k. slice_index_or numbers k (pos 0); meets = g.meets; check = check_of check; span = span; fails = g.fails }
+    record {
+      arguments = λ k. slice_index_or numbers k (pos 0);
+      meets = g.meets;
+      check = check_of check;
+      span = span;
+      fails = g.fails;
+    }
 
 verdict_never_fails : (m : Method) (v : SmallVerdict) → HasGround m v → is_fail v ≡ false → NeverFailsOn m
 verdict_never_fails m Pass g e = g.never_fails
@@ -71,7 +78,8 @@ none_fails (u ∷ us) (j ∷ js) a e = by (is_fail j.verdict) refl (λ k. none_f
   where
     by : (b : Bool) → is_fail j.verdict ≡ b → (some_fail js ≡ false → AllNeverFail us) → NeverFailsOn u.method × AllNeverFail us
     by true h rest = let same : true ≡ false = ap (λ (b : Bool). b || some_fail js) (sym h) ∙ e in absurd (cc)
-    by false h rest = (verdict_never_fails u.method j.verdict a.0.ground h, rest (ap (λ (b : Bool). b || some_fail js) (sym h) ∙ e))
+    by false h rest =
+        (verdict_never_fails u.method j.verdict a.0.ground h, rest (ap (λ (b : Bool). b || some_fail js) (sym h) ∙ e))
 
 any_of_two : (us vs : List MethodUnit) → AnyFails (us ++ vs) → AnyFails us ⊎ AnyFails vs
 any_of_two [] vs h = inr h
@@ -112,18 +120,28 @@ fails_among class [] h = absurd h
 fails_among class (x ∷ ms) h =
     elim (any_of_two (units_of_member class x) (flat_map (units_of_member class) ms) h) [
       | inl a ↦ fails_of_member class x ms a
-      | inr b ↦ (let f : FailsAmong ms = fails_among class ms b in record { method = f.method; has = (suc f.has.0, omega (arith, f.has.1), f.has.2); fails = f.fails })
+      | inr b ↦ (let f : FailsAmong ms = fails_among class ms b in
+          record { method = f.method; has = (suc f.has.0, omega (arith, f.has.1), f.has.2); fails = f.fails })
     ]
 
 fails_in : (cs : List Class) → AnyFails (flat_map units_of_class cs) → FailsIn cs
 fails_in [] h = absurd h
 fails_in (c ∷ cs) h =
     elim (any_of_two (units_of_class c) (flat_map units_of_class cs) h) [
-      | inl a ↦ (let f : FailsAmong c.members = fails_among c.name.name c.members a in record { class = c; has_class = (0, omega arith, refl); method = f.method; has = f.has; fails = f.fails })
-      | inr b ↦ (let f : FailsIn cs = fails_in cs b in record { class = f.class; has_class = (suc f.has_class.0, omega (arith, f.has_class.1), f.has_class.2); method = f.method; has = f.has; fails = f.fails })
+      | inl a ↦ (let f : FailsAmong c.members = fails_among c.name.name c.members a in
+          record { class = c; has_class = (0, omega arith, refl); method = f.method; has = f.has; fails = f.fails })
+      | inr b ↦ (let f : FailsIn cs = fails_in cs b in
+          record {
+            class = f.class;
+            has_class = (suc f.has_class.0, omega (arith, f.has_class.1), f.has_class.2);
+            method = f.method;
+            has = f.has;
+            fails = f.fails;
+          })
     ]
 
-never_among : (class : Name) (ms : List Member) (k : ℕ) (m : Method) → k < length ms → get_or ms k (member.Method m) ≡ member.Method m → AllNeverFail (flat_map (units_of_member class) ms) → NeverFailsOn m
+never_among : (class : Name) (ms : List Member) (k : ℕ) (m : Method) → k < length ms
+    → get_or ms k (member.Method m) ≡ member.Method m → AllNeverFail (flat_map (units_of_member class) ms) → NeverFailsOn m
 never_among class [] k m h e a = absurd (omega arith)
 never_among class (x ∷ ms) zero m h e a =
     let P : Member → Type 0 = λ y. AllNeverFail (units_of_member class y) in
@@ -131,23 +149,34 @@ never_among class (x ∷ ms) zero m h e a =
 never_among class (x ∷ ms) (suc k) m h e a =
     never_among class ms k m (omega arith) e (never_right (units_of_member class x) (flat_map (units_of_member class) ms) a)
 
-never_in : (cs : List Class) (k : ℕ) (c : Class) → k < length cs → get_or cs k c ≡ c → AllNeverFail (flat_map units_of_class cs) → AllNeverFail (units_of_class c)
+never_in : (cs : List Class) (k : ℕ) (c : Class) → k < length cs → get_or cs k c ≡ c → AllNeverFail (flat_map units_of_class cs)
+    → AllNeverFail (units_of_class c)
 never_in [] k c h e a = absurd (omega arith)
 never_in (x ∷ cs) zero c h e a =
     let P : Class → Type 0 = λ y. AllNeverFail (units_of_class y) in
     subst P e (never_left (units_of_class x) (flat_map units_of_class cs) a)
-never_in (x ∷ cs) (suc k) c h e a = never_in cs k c (omega arith) e (never_right (units_of_class x) (flat_map units_of_class cs) a)
+never_in (x ∷ cs) (suc k) c h e a =
+    never_in cs k c (omega arith) e (never_right (units_of_class x) (flat_map units_of_class cs) a)
 
 -- ---- of a program
 
 pub some_run_fails : (p : Program) (js : List Judged) → AreJudged (units_of p) js → some_fail js ≡ true → SomeRunFails p
 some_run_fails p js a e =
     let f : FailsIn p.classes = fails_in p.classes (any_fails (units_of p) js a e) in
-    record { method = f.method; has = (f.class, f.has_class, f.has); arguments = f.fails.arguments; meets = f.fails.meets; check = f.fails.check; span = f.fails.span; fails = f.fails.fails }
+    record {
+      method = f.method;
+      has = (f.class, f.has_class, f.has);
+      arguments = f.fails.arguments;
+      meets = f.fails.meets;
+      check = f.fails.check;
+      span = f.fails.span;
+      fails = f.fails.fails;
+    }
 
 pub no_run_fails : (p : Program) (js : List Judged) → AreJudged (units_of p) js → some_fail js ≡ false → NoRunFails p
 no_run_fails p js a e = λ m has.
-    never_among has.0.name.name has.0.members has.2.0 m has.2.1 has.2.2 (never_in p.classes has.1.0 has.0 has.1.1 has.1.2 (none_fails (units_of p) js a e))
+    never_among has.0.name.name has.0.members has.2.0 m has.2.1 has.2.2
+    (never_in p.classes has.1.0 has.0 has.1.1 has.1.2 (none_fails (units_of p) js a e))
 
 pub not_both : (p : Program) → SomeRunFails p → NoRunFails p → ⊥
 not_both p f n = n f.method f.has f.arguments f.meets f.check f.span f.fails
@@ -155,8 +184,10 @@ not_both p f n = n f.method f.has f.arguments f.meets f.check f.span f.fails
 -- ---- of a text
 
 -- verdicts with their grounds, and the report of them, are the right answer to the text
-pub judged_answer : ((p : Program) → NoRunFails p → IsSafe p) → (text : List ℕ) (names : List (List ℕ)) (p : Program) (js : List Judged) (s : Status) (output : List ℕ)
-    → SpellsSmallProgram text names p → SpellsOnly text p → HasNoRefusal text → AreJudged (units_of p) js → s ≡ status_of js → output ≡ report_of text names js → IsTextAnswer text s output
+pub judged_answer : ((p : Program) → NoRunFails p → IsSafe p)
+    → (text : List ℕ) (names : List (List ℕ)) (p : Program) (js : List Judged) (s : Status) (output : List ℕ)
+    → SpellsSmallProgram text names p → SpellsOnly text p → HasNoRefusal text → AreJudged (units_of p) js → s ≡ status_of js
+    → output ≡ report_of text names js → IsTextAnswer text s output
 judged_answer law text names p js s output spells only unrefused a e o = by (some_fail js) refl
   where
     reports : Reports text s output
@@ -173,7 +204,11 @@ judged_answer law text names p js s output spells only unrefused a e o = by (som
             text_refused = (λ k. absurd (cc), λ none. absurd (none names p spells));
             has_refusal = λ r refused. absurd (unrefused r refused);
             refused = (λ _. record { names = names; program = p; spells = spells; so = fails }, λ _. is);
-            passed = (λ k. absurd (cc), λ u. absurd (not_both p fails (let R : Program → Type 0 = λ q. NoRunFails q in subst R (only u.names u.program u.spells) u.so)));
+            passed = (
+              λ k. absurd (cc),
+              λ u. absurd (not_both p fails (let R : Program
+                  → Type 0 = λ q. NoRunFails q in subst R (only u.names u.program u.spells) u.so)),
+            );
             safe = λ k. absurd (cc);
           };
           shown = subst Q (sym is) (subst P is reports);
@@ -187,7 +222,11 @@ judged_answer law text names p js s output spells only unrefused a e o = by (som
           is = record {
             text_refused = (λ k. absurd (cc), λ none. absurd (none names p spells));
             has_refusal = λ r refused. absurd (unrefused r refused);
-            refused = (λ k. absurd (cc), λ u. absurd (not_both p (let R : Program → Type 0 = λ q. SomeRunFails q in subst R (only u.names u.program u.spells) u.so) never));
+            refused = (
+              λ k. absurd (cc),
+              λ u. absurd (not_both p (let R : Program
+                  → Type 0 = λ q. SomeRunFails q in subst R (only u.names u.program u.spells) u.so) never),
+            );
             passed = (λ _. record { names = names; program = p; spells = spells; so = never }, λ _. is);
             safe = λ _. record { names = names; program = p; spells = spells; so = law p never };
           };

@@ -2,38 +2,20 @@
 use Rattle.std.specs.Prelude.{◌≡◌, ◌↔◌, ℕ, ◌≤◌, ◌<◌, List, ◌++◌, length, Option, Some, None, IfSome, IsSomeAnd}
 use Rattle.std.specs.Option.{option_map}
 use Rattle.pv_ast.specs.declared.Program.{Program}
+use Rattle.pv_tokens.specs.Bytes.{most_bytes}
 use Rattle.pv_io.specs.Calls.{NamedBytes}
 use Rattle.pv_io.specs.Whole.{AppendsPrefix}
 use Rattle.vercors.specs.declared.ending.Status.{Status}
-use Rattle.vercors.specs.declared.ending.Status.TheVariants.{Passed, Refused, TextRefused, Splits, WordsWrong, NoFile, ReadFault, WriteFault, TooLarge, NoMemory, WentWrong, ScheduleRefused, Overflow, RangeTooLong}
-use Rattle.vercors.specs.declared.judging.Judged.{Judged}
-use Rattle.vercors.specs.declared.refusing.Refusal.{Refusal}
-use Rattle.vercors.specs.Words.{IsVerify, NoVerify}
+use Rattle.vercors.specs.declared.ending.Status.TheVariants.{Passed, Refused, TextRefused, WordsWrong, NoFile, ReadFault, WriteFault, TooLarge, NoMemory}
+use Rattle.small_verdicts.specs.declared.judging.Judged.{Judged}
+use Rattle.pv_report.specs.declared.refusing.Refusal.{Refusal}
+use Rattle.pv_words.specs.Words.{IsVerify, NoVerify}
 use Rattle.vercors.specs.Texts.{SpellsSmallProgram, SpellsNone, SpellsFailing, SpellsUnfailing, SpellsSafe}
 use Rattle.vercors.specs.Refusals.{IsRefused, HasOnly}
-use Rattle.vercors.specs.Units.{units_of, AreJudged}
-use Rattle.vercors.specs.Output.{usage_line, no_file_line, read_fault_line, too_large_line, refusal_line, report_of, status_of}
-
--- how many bytes a file may have
-abbrev pub limit : ℕ
-limit = 1048576
-
--- the exit status
-abbrev pub code_of : Status → ℕ
-code_of Passed = 0
-code_of Refused = 1
-code_of TextRefused = 2
-code_of Splits = 3
-code_of WordsWrong = 4
-code_of NoFile = 5
-code_of ReadFault = 6
-code_of WriteFault = 7
-code_of TooLarge = 8
-code_of NoMemory = 9
-code_of WentWrong = 10
-code_of ScheduleRefused = 11
-code_of Overflow = 12
-code_of RangeTooLong = 13
+use Rattle.small_verdicts.specs.Units.{units_of, AreJudged}
+use Rattle.pv_report.specs.Output.{refusal_line, report_of}
+use Rattle.vercors.specs.Lines.{usage_line, no_file_line, read_fault_line, too_large_line}
+use Rattle.vercors.specs.Statuses.{status_of}
 
 -- a verdict on each unit of the program that the text spells, each with its ground, and the report of them
 pub record Reports (text : List ℕ) (status : Status) (output : List ℕ) : Type 0 where
@@ -84,9 +66,11 @@ pub record IsTextAnswer (text : List ℕ) (status : Status) (output : List ℕ) 
 pub data IsFileAnswer (told : Option (Option (List ℕ))) : Status → List ℕ → Type 0 where
   missing : IfSome told (λ bytes. bytes ≡ None) → IsFileAnswer told NoFile no_file_line
   unread : IsFileAnswer told ReadFault read_fault_line
-  too_large : IfSome told (λ bytes. IsSomeAnd bytes (λ text. limit < length text)) → IsFileAnswer told TooLarge too_large_line
+  too_large : IfSome told (λ bytes. IsSomeAnd bytes (λ text. most_bytes < length text))
+      → IsFileAnswer told TooLarge too_large_line
   read : {text : List ℕ} {status : Status} {output : List ℕ}
-      → IfSome told (λ bytes. bytes ≡ Some text) → length text ≤ limit → IsTextAnswer text status output → IsFileAnswer told status output
+      → IfSome told (λ bytes. bytes ≡ Some text) → length text ≤ most_bytes → IsTextAnswer text status output
+      → IsFileAnswer told status output
 
 -- what is told of the file of that name
 abbrev pub told_of : Option NamedBytes → List ℕ → Option (Option (List ℕ))
@@ -98,13 +82,22 @@ pub data IsAnswer (files : Option NamedBytes) (words : List (List ℕ)) : Status
   verify : {file : List ℕ} {status : Status} {output : List ℕ}
       → IsVerify words file → IsFileAnswer (told_of files file) status output → IsAnswer files words status output
 
+-- the answer to the words, whose status agrees with what the shelf counted in the call: NoFile exactly where a name was missed,
+-- TooLarge exactly where too much was taken, and ReadFault only where a call failed
+pub record IsCountedAnswer (files : Option NamedBytes) (words : List (List ℕ)) (Missed TookTooMuch Failed : Type 0)
+    (status : Status) (output : List ℕ) : Type 0 where
+  pub answer : IsAnswer files words status output
+  pub no_file : (status ≡ NoFile) ↔ Missed
+  pub too_large : (status ≡ TooLarge) ↔ TookTooMuch
+  pub read_fault : status ≡ ReadFault → Failed
+
 -- a text was read under the name that the words give, the one that is told if one is told, and this is its status
 pub record ReadsText (files : Option NamedBytes) (words : List (List ℕ)) (status : Status) : Type 0 where
   pub file : List ℕ
   pub form : IsVerify words file
   pub text : List ℕ
   pub told : IfSome (told_of files file) (λ bytes. bytes ≡ Some text)
-  pub small : length text ≤ limit
+  pub small : length text ≤ most_bytes
   pub is : IsStatusOf text status
 
 -- the output of an answer of that status was appended, and nothing else

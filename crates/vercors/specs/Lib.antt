@@ -1,9 +1,6 @@
-pub mod Words
 pub mod Texts
 pub mod Refusals
-pub mod Units
-pub mod Output
+pub mod Statuses
+pub mod Lines
 pub mod Answers
-pub mod Faults
 pub mod Loading
-pub mod Positions

@@ -4,7 +4,7 @@ use Rattle.pv_io.specs.declared.faults.LoadFault.{LoadFault}
 use Rattle.pv_io.specs.declared.faults.LoadFault.TheVariants as fault
 use Rattle.vercors.specs.declared.ending.Status.{Status}
 use Rattle.vercors.specs.declared.ending.Status.TheVariants as status
-use Rattle.vercors.specs.Output.{no_file_line, read_fault_line, too_large_line}
+use Rattle.vercors.specs.Lines.{no_file_line, read_fault_line, too_large_line}
 
 abbrev pub IsFaultAnswer : LoadFault → Status → List ℕ → Type 0
 IsFaultAnswer fault.NoFile s output = (s ≡ status.NoFile) × (output ≡ no_file_line)

@@ -9,8 +9,8 @@ use Rattle.pv_tokens.specs.Progress.{IsTokens}
 use Rattle.pv_tokens.specs.Lexemes.{IsNumberOf}
 use Rattle.pv_reading.specs.Spelled.{SpellsWithin}
 use Rattle.pv_parser.specs.Grammar.{IsProgram}
-use Rattle.pv_rules.specs.Programs.{KeepsRules}
-use Rattle.pv_rules.specs.Shapes.{shape_faults_of}
+use Rattle.pv_ast.specs.Rules.Programs.{KeepsRules}
+use Rattle.pv_ast.specs.Rules.Shapes.{shape_faults_of}
 use Rattle.small_meaning.specs.Small.{IsSmall}
 use Rattle.small_meaning.specs.Running.{Arguments, Meets, Check, failed, run_of}
 use Rattle.small_meaning.specs.Grounds.{NoRunFails}

@@ -1,26 +1,25 @@
 //! The answer to the words, before any of it is written.
 ghost use Rattle.std.specs.Prelude.{◌≡◌, ◌↔◌, ◌≤◌, ◌<◌, ◌^◌, length, IfOk};
+ghost use Rattle.pv_tokens.specs.Bytes.{most_bytes};
 ghost use Rattle.pv_io.specs.Count.{HasRisen, last_count};
 ghost use Rattle.pv_ast.specs.Measures.{literals_of_program};
-ghost use Rattle.vercors.specs.Words.{NoVerify};
+ghost use Rattle.pv_words.specs.Words.{NoVerify};
 ghost use Rattle.vercors.specs.Texts.{SpellsSmallProgram, SpellsNone, SpellsOnly};
 ghost use Rattle.vercors.specs.Refusals.{IsRefused, HasOnly, HasNoRefusal};
 ghost use Rattle.vercors.specs.Loading.{IsFaultAnswer};
-ghost use Rattle.vercors.specs.Answers.{limit, IsTextAnswer, IsFileAnswer, IsAnswer, told_of};
+ghost use Rattle.vercors.specs.Answers.{IsTextAnswer, IsFileAnswer, IsAnswer, told_of};
 
-use crate::command::{Words, file_to_verify};
-use crate::ending::{Answer, Status};
-use crate::fault::TextFault;
-use crate::judging::judge;
+use crate::ending::{Answer, Status, status_of};
 use crate::reading::read_program;
-use crate::refusing::{Refusal, line_of_refusal};
-use crate::report::{report, status_of};
 use pv_ast::Program;
 use pv_base::NoMemory;
 use pv_io::{LoadFault, Shelf, load};
 use pv_names::Names;
+use pv_report::{Refusal, TextFault, line_of_refusal, report};
+use pv_words::{Words, file_to_verify};
 use small_meaning::safe_where_no_run_fails;
 use small_typing::keeps_small_rules;
+use small_verdicts::judge;
 use sqlite_items::Items;
 use std::alloc::Global;
 
@@ -52,7 +51,7 @@ fn answer_to_program(
     names: &Names,
     program: &Program,
 ) -> Result<Answer, NoMemory>
-    requires short { length text.now ≤ limit }
+    requires short { length text.now ≤ most_bytes }
     requires spelled { SpellsSmallProgram text.now names.now program.now }
     requires one { SpellsOnly text.now program.now }
     requires unrefused { HasNoRefusal text.now }
@@ -69,7 +68,7 @@ fn answer_to_program(
 
 /// The answer to a text that is refused.
 fn answer_to_refusal(alloc: Global, text: &[u8], refusal: Refusal) -> Result<Answer, NoMemory>
-    requires short { length text.now ≤ limit }
+    requires short { length text.now ≤ most_bytes }
     requires refused { IsRefused text.now refusal }
     requires only { HasOnly text.now refusal }
     requires none { SpellsNone text.now }
@@ -84,7 +83,7 @@ fn answer_to_refusal(alloc: Global, text: &[u8], refusal: Refusal) -> Result<Ans
 
 /// The answer to a text.
 fn answer_to_text(alloc: Global, text: &[u8]) -> Result<Answer, NoMemory>
-    requires { length text.now ≤ limit }
+    requires { length text.now ≤ most_bytes }
     ensures { IfOk result (λ answer. IsTextAnswer text.now answer.status answer.output) }
 {
     let mut names = Names::new(alloc);
@@ -113,7 +112,7 @@ fn answer_to_file<F: Shelf>(alloc: Global, file: &[u8], shelf: &mut F) -> Result
     requires misses_left { F.misses shelf.old < last_count }
     ensures right { IfOk result (λ answer. IsFileAnswer (told_of (F.files shelf.old) file.now) answer.status answer.output) }
     ensures no_file { IfOk result (λ answer. (answer.status ≡ Status.NoFile) ↔ (F.misses shelf.old < F.misses shelf.new)) }
-    ensures too_large { IfOk result (λ answer. (answer.status ≡ Status.TooLarge) ↔ ((F.hits shelf.old < F.hits shelf.new) × (limit < F.taken shelf.new))) }
+    ensures too_large { IfOk result (λ answer. (answer.status ≡ Status.TooLarge) ↔ ((F.hits shelf.old < F.hits shelf.new) × (most_bytes < F.taken shelf.new))) }
     ensures read_fault { IfOk result (λ answer. answer.status ≡ Status.ReadFault → HasRisen (F.faults shelf.old) (F.faults shelf.new)) }
     ensures keeps_files { F.files shelf.new ≡ F.files shelf.old }
     ensures never_falls { F.faults shelf.old ≤ F.faults shelf.new }
@@ -131,10 +130,11 @@ pub fn answer_to<F: Shelf>(alloc: Global, words: &Words, shelf: &mut F) -> Resul
     ensures right { IfOk result (λ answer. IsAnswer (F.files shelf.old) words.now answer.status answer.output) }
     ensures words_wrong { IfOk result (λ answer. (answer.status ≡ Status.WordsWrong) ↔ NoVerify words.now) }
     ensures no_file { IfOk result (λ answer. (answer.status ≡ Status.NoFile) ↔ (F.misses shelf.old < F.misses shelf.new)) }
-    ensures too_large { IfOk result (λ answer. (answer.status ≡ Status.TooLarge) ↔ ((F.hits shelf.old < F.hits shelf.new) × (limit < F.taken shelf.new))) }
+    ensures too_large { IfOk result (λ answer. (answer.status ≡ Status.TooLarge) ↔ ((F.hits shelf.old < F.hits shelf.new) × (most_bytes < F.taken shelf.new))) }
     ensures read_fault { IfOk result (λ answer. answer.status ≡ Status.ReadFault → HasRisen (F.faults shelf.old) (F.faults shelf.new)) }
     ensures keeps_files { F.files shelf.new ≡ F.files shelf.old }
     ensures never_falls { F.faults shelf.old ≤ F.faults shelf.new }
+    ensures unasked { NoVerify words.now → shelf.new ≡ shelf.old }
 {
     match file_to_verify(words) {
         Some(file) => answer_to_file(alloc, file, shelf),

@@ -1,13 +1,14 @@
 //! The call.
 ghost use Rattle.std.specs.Prelude.{◌≡◌, ◌<◌, ◌≤◌};
+ghost use Rattle.pv_tokens.specs.Bytes.{most_bytes};
 ghost use Rattle.pv_io.specs.Count.{HasRisen, last_count};
-ghost use Rattle.vercors.specs.Words.{NoVerify};
-ghost use Rattle.vercors.specs.Answers.{limit, IsOfText, IsAnswer, ReadsText, Delivers, ComesExactly};
+ghost use Rattle.pv_words.specs.Words.{NoVerify};
+ghost use Rattle.vercors.specs.Answers.{IsOfText, IsCountedAnswer, ReadsText, Delivers, ComesExactly};
 
 use crate::answering::answer_to;
-use crate::command::Words;
 use crate::ending::Status;
 use pv_io::{Shelf, Sink, write_whole};
+use pv_words::Words;
 use std::alloc::Global;
 
 /// Does what the words say, with the files of the shelf, writes the output to the sink, and answers how it ended.
@@ -29,15 +30,19 @@ pub fn vercors<F: Shelf, W: Sink>(
     // some run fails.
     ensures text { IsOfText result → ReadsText (F.files shelf.old) words.now result }
 
-    // The bytes that are written: those of the right answer, a prefix of them where the writing failed, or none.
-    ensures output { Delivers (IsAnswer (F.files shelf.old) words.now) result (W.written out.old) (W.written out.new) }
+    // The bytes that are written: those of the right answer, a prefix of them where the writing failed, or none. That answer's
+    // status agrees with what the shelf counted, also where the writing failed.
+    ensures output { Delivers (IsCountedAnswer (F.files shelf.old) words.now (F.misses shelf.old < F.misses shelf.new) ((F.hits shelf.old < F.hits shelf.new) × (most_bytes < F.taken shelf.new)) (HasRisen (F.faults shelf.old) (F.faults shelf.new))) result (W.written out.old) (W.written out.new) }
 
     // When each refusal comes.
     ensures words_wrong { ComesExactly result Status.WordsWrong (NoVerify words.now) }
     ensures no_file { ComesExactly result Status.NoFile (F.misses shelf.old < F.misses shelf.new) }
-    ensures too_large { ComesExactly result Status.TooLarge ((F.hits shelf.old < F.hits shelf.new) × (limit < F.taken shelf.new)) }
+    ensures too_large { ComesExactly result Status.TooLarge ((F.hits shelf.old < F.hits shelf.new) × (most_bytes < F.taken shelf.new)) }
     ensures read_fault { result ≡ Status.ReadFault → HasRisen (F.faults shelf.old) (F.faults shelf.new) }
     ensures write_fault { result ≡ Status.WriteFault → HasRisen (W.faults out.old) (W.faults out.new) }
+
+    // Wrong words leave the shelf alone.
+    ensures unasked { NoVerify words.now → shelf.new ≡ shelf.old }
 
     ensures keeps_files { F.files shelf.new ≡ F.files shelf.old }
     ensures shelf_never_falls { F.faults shelf.old ≤ F.faults shelf.new }

@@ -1,8 +1,10 @@
 //! How a call ends.
 ghost use Rattle.std.specs.Prelude.{◌≡◌};
-ghost use Rattle.vercors.specs.Answers.{code_of};
+ghost use Rattle.vercors.specs.Statuses.{code_of, status_of};
 
 use pv_io::Bytes;
+use pv_report::some_fail;
+use small_verdicts::Judged;
 
 /// How a call ends. Its exit status is the place of the variant, counted from 0.
 #[derive(Clone, Copy, Debug, PartialEq, Eq, Drop)]
@@ -51,4 +53,15 @@ impl Status {
 pub struct Answer {
     pub status: Status,
     pub output: Bytes,
+}
+
+/// The status by the verdicts.
+pub fn status_of(judged: &[Judged]) -> Status
+    ensures { result ≡ status_of judged.now }
+{
+    if some_fail(judged) {
+        Status::Refused
+    } else {
+        Status::Passed
+    }
 }

@@ -1,15 +1,14 @@
 //! From a text to the small program that it spells.
-ghost use Rattle.std.specs.Prelude.{◌≡◌, ◌≢◌, ◌≤◌, ◌^◌, [], length, OnOk, IfOk, IfErr};
-ghost use Rattle.pv_ast.specs.Measures.{literals_of_program};
+ghost use Rattle.std.specs.Prelude.{◌≡◌, ◌≢◌, ◌≤◌, [], length, OnOk, IfOk, IfErr};
+ghost use Rattle.pv_tokens.specs.Bytes.{most_bytes};
+ghost use Rattle.pv_ast.specs.Rules.WellFormed.{IsWellFormed};
 ghost use Rattle.vercors.specs.Texts.{IsAccepted, SpellsSmallProgram, SpellsNone, SpellsOnly};
-ghost use Rattle.vercors.specs.Refusals.{HasNoRefusal};
-ghost use Rattle.vercors.specs.Faults.{RefusesProgram, Refuses};
+ghost use Rattle.vercors.specs.Refusals.{HasNoRefusal, RefusesProgram, Refuses};
 
-use crate::fault::TextFault;
-use crate::refusing::Refusal;
 use pv_ast::Program;
 use pv_names::Names;
 use pv_parser::{few_literals, program};
+use pv_report::{Refusal, TextFault};
 use pv_shapes::check_shapes;
 use pv_tokens::reading::tokens;
 use pv_types::check_types;
@@ -33,14 +32,14 @@ fn check_program(alloc: Global, program: &Program) -> Result<(), TextFault>
 
 /// The small program that a text spells, and the names in it; or why the text is refused, unless memory runs out first.
 pub fn read_program(alloc: Global, text: &[u8], names: &mut Names) -> Result<Program, TextFault>
-    requires short { length text.now ≤ 2 ^ 20 }
+    requires short { length text.now ≤ most_bytes }
     requires no_names { names.old ≡ [] }
     ensures spelled { IfOk result (λ program. SpellsSmallProgram text.now names.new program) }
     ensures one { IfOk result (λ program. SpellsOnly text.now program) }
     ensures unrefused { IfOk result (λ _. HasNoRefusal text.now) }
     ensures refused { IfErr result (λ fault. Refuses text.now fault) }
     ensures none { IfErr result (λ fault. fault ≢ TextFault.NoMemory → SpellsNone text.now) }
-    ensures few { IfOk result (λ program. literals_of_program program ≤ 2 ^ 20) }
+    ensures well_formed { IfOk result (λ program. IsWellFormed program) }
 {
     few_literals();
     let found = tokens(alloc, text, names)?;

@@ -1,9 +1,9 @@
 ghost use Rattle.std.specs.Prelude.{◌≡◌, IfOk};
 
 use crate::call::vercors;
-use crate::command::Words;
 use crate::ending::Status;
 use pv_io::{Bytes, FileEntry, Files, MemoryShelf, MemorySink};
+use pv_words::Words;
 use sqlite_items::Items;
 use std::alloc::{AllocError, Global};
 use std::test::Fail;
@@ -119,8 +119,13 @@ pub(crate) fn verify(alloc: Global, text: &[u8], faults: Faults) -> Result<(Stat
 
 #[test]
 fn texts(rt: HostRuntime) -> Result<(), Fail> {
-    let rows: [(&[u8], Status, &[u8]); 8] = [
+    let rows: [(&[u8], Status, &[u8]); 9] = [
         (NEXT, Status::Passed, b"Pass Abs.next\nPass\n"),
+        (
+            b"class N { void f() { int k = 9223372036854775807; } }",
+            Status::Passed,
+            b"Pass N.f\nPass\n",
+        ),
         (
             FAILING,
             Status::Refused,
@@ -147,15 +152,19 @@ fn texts(rt: HostRuntime) -> Result<(), Fail> {
 
 #[test]
 fn refused_texts(rt: HostRuntime) -> Result<(), Fail> {
-    let rows: [(&[u8], &[u8]); 8] = [
+    let rows: [(&[u8], &[u8]); 9] = [
         (b"class C { int x; } %", b"TextRefused BadByte 1:20\n"),
         (
-            b"class C {\n  int x = 9223372036854775808;\n}",
-            b"TextRefused BadNumber 2:11\n",
+            b"class N { void f() { int k = 9223372036854775808; } }",
+            b"TextRefused BadNumber 1:30\n",
         ),
-        (b"class C { } /* x", b"TextRefused OpenComment 1:13\n"),
+        (b"class A { /* x", b"TextRefused OpenComment 1:11\n"),
         (b"class C { ; }", b"TextRefused Unexpected 1:11-1:12\n"),
-        (b"class C {", b"TextRefused Unexpected 1:10-1:10\n"),
+        (b"class A {", b"TextRefused Unexpected 1:10-1:10\n"),
+        (
+            b"class A { /*@ given int g; @*/ void f() { } }",
+            b"TextRefused Unexpected 1:21-1:24\n",
+        ),
         (b"class C { } class C %", b"TextRefused BadByte 1:21\n"),
         (b"class C { int x; }", b"TextRefused NotBuilt\n"),
         (
@@ -210,11 +219,11 @@ fn faulty_texts(rt: HostRuntime) -> Result<(), Fail> {
 /// A text whose parentheses stand that deep, in the braces of a class and of a method.
 fn nested(alloc: Global, count: u64) -> Result<Vec<u8>, AllocError> {
     let mut text = Vec::new(alloc);
-    text.extend_from_slice(b"class C { void f() { assert ")?;
+    text.extend_from_slice(b"class D { void f() { assert ")?;
     for _ in 0..count {
         text.push(b'(')?;
     }
-    text.extend_from_slice(b"0 == 0")?;
+    text.extend_from_slice(b"true")?;
     for _ in 0..count {
         text.push(b')')?;
     }
@@ -224,9 +233,9 @@ fn nested(alloc: Global, count: u64) -> Result<Vec<u8>, AllocError> {
 
 #[test]
 fn deep_texts(rt: HostRuntime) -> Result<(), Fail> {
-    let (answer, written) = verify(rt.alloc(), nested(rt.alloc(), 61)?.as_slice(), NONE)?;
+    let (answer, written) = verify(rt.alloc(), nested(rt.alloc(), 62)?.as_slice(), NONE)?;
     assert_eq!(rt; answer, Status::Passed);
-    assert_eq!(rt; written.as_slice(), b"Pass C.f\nPass\n".as_slice());
+    assert_eq!(rt; written.as_slice(), b"Pass D.f\nPass\n".as_slice());
     let (answer, written) = verify(rt.alloc(), nested(rt.alloc(), 63)?.as_slice(), NONE)?;
     assert_eq!(rt; answer, Status::TextRefused);
     assert_eq!(rt;
@@ -267,8 +276,11 @@ fn failing_calls(rt: HostRuntime) -> Result<(), Fail> {
 
 #[test]
 fn wrong_words(rt: HostRuntime) -> Result<(), Fail> {
-    let rows: [&[&[u8]]; 6] = [
+    let rows: [&[&[u8]]; 9] = [
         &[],
+        &[b"help"],
+        &[b"frob", b"a"],
+        &[b"big", b"0"],
         &[b"verify"],
         &[b"verify", b""],
         &[b"verify", b"-x"],
@@ -288,6 +300,10 @@ fn files(rt: HostRuntime) -> Result<(), Fail> {
     let (status, written) = run(rt.alloc(), &[b"verify", b"none.pvl"], NEXT, NONE)?;
     assert_eq!(rt; status, Status::NoFile);
     assert_eq!(rt; written.as_slice(), b"NoFile\n".as_slice());
+    let spaces = vec![in rt.alloc(); b' '; 1_048_576]?;
+    let (status, written) = verify(rt.alloc(), spaces.as_slice(), NONE)?;
+    assert_eq!(rt; status, Status::Passed);
+    assert_eq!(rt; written.as_slice(), b"Pass\n".as_slice());
     let spaces = vec![in rt.alloc(); b' '; 1_048_577]?;
     let (status, written) = verify(rt.alloc(), spaces.as_slice(), NONE)?;
     assert_eq!(rt; status, Status::TooLarge);

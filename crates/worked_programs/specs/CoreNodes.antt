@@ -3,7 +3,7 @@ use Rattle.std.specs.Prelude.{ℕ, Bool, true, Option, List}
 use Rattle.pv_base.specs.declared.Name.{Name}
 use Rattle.pv_ast.specs.declared.PvType.{PvType}
 use Rattle.pv_values.specs.declared.value.Value.TheVariants as value
-use Rattle.pv_meaning.specs.Core.{Expression, Constant, Formula, Fact, Items, Contract, Shared, Team, Barrier, Message, Parameter, Block, Predicate, Method, Member, Class}
+use Rattle.pv_picks.specs.Plain.Core.{Expression, Constant, Formula, Fact, Items, Contract, Shared, Team, Barrier, Message, Parameter, Block, Predicate, Method, Member, Class}
 use Rattle.worked_programs.specs.Nodes.{at}
 
 abbrev pub always : Formula
@@ -28,7 +28,15 @@ abbrev pub predicate : Name → List Parameter → Formula → Predicate
 predicate name parameters body = record { name = name; parameters = parameters; body = body }
 
 abbrev pub method : Option Name → List Parameter → Option PvType → Contract → Block → Bool → Method
-method name parameters result c body old = record { name = name; parameters = parameters; result = result; contract = c; body = body; old = old }
+method name parameters result c body old = record {
+  name = name;
+  parameters = parameters;
+  result = result;
+  contract = c;
+  body =
+      body;
+  old = old;
+}
 
 abbrev pub class : Name → Option Formula → List Member → Class
 class name invariant members = record { name = name; lock_invariant = invariant; members = members }

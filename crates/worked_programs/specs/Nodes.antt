@@ -36,7 +36,8 @@ abbrev pub node : ℕ → ℕ → ExprKind → Expr
 node from to kind = record { span = at from to; kind = kind }
 
 abbrev pub each : Bool → Word → Expr → Expr → Expr → Option (Word × Word) → Each
-each star w low high body written = roll-Each (record { star = star; name = w; low = low; high = high; body = body; written = written })
+each star w low high body written =
+    roll-Each (record { star = star; name = w; low = low; high = high; body = body; written = written })
 
 abbrev pub type_at : ℕ → ℕ → PvType → TypeWord
 type_at from to kind = record { kind = kind; span = at from to }
@@ -63,7 +64,14 @@ abbrev pub predicate : Span → Word → List Param → Expr → Predicate
 predicate span w params body = record { span = span; name = w; params = params; body = body }
 
 abbrev pub method : Span → Word → Option TypeWord → List Param → Contract → List Stmt → Method
-method span w result params contract body = record { span = span; name = w; result = result; params = params; contract = contract; body = body }
+method span w result params contract body = record {
+  span = span;
+  name = w;
+  result = result;
+  params = params;
+  contract = contract;
+  body = body;
+}
 
 abbrev pub run : Span → Span → Contract → List Stmt → RunMethod
 run span w contract body = record { span = span; word = w; contract = contract; body = body }

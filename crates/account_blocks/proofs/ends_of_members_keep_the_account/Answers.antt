@@ -1,8 +1,5 @@
-use Rattle.account_blocks.proofs.Moving.{has_one}
-use Rattle.account_blocks.proofs.Ending.{end_keeps}
+use Rattle.account_blocks.proofs.Laws.{ends_keep}
 use Rattle.account_blocks.proofs.ends_of_members_keep_the_account.Goals as goal
 
 pub returns : goal.returns
-returns c p w a sound framed i b position f at mode =
-    end_keeps p w a sound framed i (a.threads.live i (has_one (w.threads i).frames f _ at.stack)) f at.stack b position at.role
-    at.stands mode
+returns c = ends_keep

@@ -1,8 +1,5 @@
-use Rattle.account_blocks.proofs.Moving.{has_one}
-use Rattle.account_blocks.proofs.Leaving.{leave_keeps}
+use Rattle.account_blocks.proofs.Laws.{leaves_keep}
 use Rattle.account_blocks.proofs.leaves_keep_the_account.Goals as goal
 
 pub returns : goal.returns
-returns c p w a sound framed i b position f barrier span rest at each mode =
-    leave_keeps p w a sound framed i (a.threads.live i (has_one (w.threads i).frames f _ at.stack)) f at.stack b position at.role
-    barrier span rest at.stands each mode
+returns c = leaves_keep

@@ -1,8 +1,5 @@
-use Rattle.account_blocks.proofs.Moving.{has_one}
-use Rattle.account_blocks.proofs.Sending.{send_keeps}
+use Rattle.account_blocks.proofs.Laws.{sends_keep}
 use Rattle.account_blocks.proofs.sends_keep_the_account.Goals as goal
 
 pub returns : goal.returns
-returns c p w a sound framed i b position f m span rest at mode =
-    send_keeps p w a sound framed i (a.threads.live i (has_one (w.threads i).frames f _ at.stack)) f at.stack b position at.role m
-    span rest at.stands mode
+returns c = sends_keep

@@ -44,13 +44,19 @@ pub returns-in-Some : goal.returns-in-Some
 returns-in-Some c =
     let nodes = c.in_ok-forest.forest.nodes.items in
     let split = c.in-Some.split in
-    let path = subst (λ (ns : List Node). IsPath ns c.node_of-left.result c.node_of-right.result c.in_ok-places-in-Some.places.items) c.deref-in-Some.ensures.value c.in_ok-places-in-Some.ensures in
+    let path = subst (λ (ns : List Node). IsPath ns c.node_of-left.result c.node_of-right.result
+    c.in_ok-places-in-Some.places.items) c.deref-in-Some.ensures.value c.in_ok-places-in-Some.ensures in
     subst (IsClash c.args.literals.now) (sym (c.from_vec.ensures ∙ c.in_ok-push-in-Some.ensures.items))
-    (IsClash-path c.args.symbols.now c.args.literals.now _ _ nodes c.in_ok-forest.forest.seen.items split.place split.left split.right c.node_of-left.result c.node_of-right.result c.in_ok-places-in-Some.places.items
-    c.in_ok-chains.ensures.tied c.in_ok-forest.ensures.whole.forest c.in_ok-forest.ensures.size c.in-Some.ensures.split c.node_of-left.ensures c.node_of-right.ensures path)
+    (IsClash-path c.args.symbols.now c.args.literals.now _ _ nodes c.in_ok-forest.forest.seen.items split.place split.left
+    split.right c.node_of-left.result c.node_of-right.result c.in_ok-places-in-Some.places.items
+    c.in_ok-chains.ensures.tied c.in_ok-forest.ensures.whole.forest c.in_ok-forest.ensures.size c.in-Some.ensures.split
+    c.node_of-left.ensures c.node_of-right.ensures path)
 
 pub returns : goal.returns
 returns c =
-    AreClasses-roots c.args.symbols.now c.args.literals.now _ _ c.in_ok-forest.forest.nodes.items c.in_ok-forest.forest.seen.items c.in_ok-classes.classes.items
-    c.in_ok-chains.ensures.tied c.in_ok-forest.ensures.whole c.in_ok-forest.ensures.size c.in_ok-classes.ensures.size c.in_ok-classes.ensures.roots
-    (λ p k z s e. c.in-None.ensures.none p k z s (subst (λ (q : List ℕ). class_at q k ≡ class_at q z) (sym c.deref.ensures.value) e))
+    AreClasses-roots c.args.symbols.now c.args.literals.now _ _ c.in_ok-forest.forest.nodes.items c.in_ok-forest.forest.seen.items
+    c.in_ok-classes.classes.items
+    c.in_ok-chains.ensures.tied c.in_ok-forest.ensures.whole c.in_ok-forest.ensures.size c.in_ok-classes.ensures.size
+    c.in_ok-classes.ensures.roots
+    (λ p k z s e. c.in-None.ensures.none p k z s
+    (subst (λ (q : List ℕ). class_at q k ≡ class_at q z) (sym c.deref.ensures.value) e))

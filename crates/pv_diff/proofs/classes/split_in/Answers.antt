@@ -12,4 +12,5 @@ loop-place-preserved c = λ p k z lt s e. elim (same_or_other p c.loop-place.pla
 ]
 
 pub returns-clause-none : goal.returns-clause-none
-returns-clause-none c = λ p k z s e. c.loop-place.invariant p k z (let a = slice_get_within c.args.literals.now p (Differ s.left s.right) s.found in omega (arith, a)) s e
+returns-clause-none c = λ p k z s e. c.loop-place.invariant p k z
+    (let a = slice_get_within c.args.literals.now p (Differ s.left s.right) s.found in omega (arith, a)) s e

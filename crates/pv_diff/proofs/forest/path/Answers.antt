@@ -15,7 +15,9 @@ loop-left-preserved-then-left-right c =
       right = omega (arith, falls, right);
       same = i.same ∙ sym (c.requires.trees.stays c.loop-left.right link.place link.parent c.link_of-link.ensures);
       up = i.up;
-      down = subst (Ascent ns c.args.to link.parent) (sym c.in_ok-push.ensures.items) (Ascent-more ns c.args.to c.loop-left.right link.parent link.place c.loop-left.back.items i.down c.link_of-link.ensures);
+      down = subst (Ascent ns c.args.to link.parent) (sym c.in_ok-push.ensures.items)
+          (Ascent-more ns c.args.to c.loop-left.right link.parent link.place c.loop-left.back.items i.down
+          c.link_of-link.ensures);
     }
 
 pub loop-left-preserved : goal.loop-left-preserved
@@ -30,6 +32,7 @@ loop-left-preserved c =
       left = omega (arith, falls, left);
       right = i.right;
       same = c.requires.trees.stays c.loop-left.left link.place link.parent is ∙ i.same;
-      up = subst (Ascent ns c.args.from link.parent) (sym c.in_ok-push-2.ensures.items) (Ascent-more ns c.args.from c.loop-left.left link.parent link.place c.loop-left.places.items i.up is);
+      up = subst (Ascent ns c.args.from link.parent) (sym c.in_ok-push-2.ensures.items)
+          (Ascent-more ns c.args.from c.loop-left.left link.parent link.place c.loop-left.places.items i.up is);
       down = i.down;
     }

@@ -8,7 +8,8 @@ use Rattle.pv_diff.proofs.slots.assignment_of.Goals as goal
 
 pub index_mut-requires : goal.index_mut-requires
 index_mut-requires c =
-    let a = rises_along c.args.symbols.now c.loop-slot.slot (length c.args.symbols.now - 1) c.requires.rises (omega arith) (omega arith) in
+    let a = rises_along c.args.symbols.now c.loop-slot.slot (length c.args.symbols.now - 1) c.requires.rises (omega arith)
+    (omega arith) in
     let b = c.loop-slot.invariant.size in
     let d = c.loop-slot.numbers.ok.0 in
     omega (arith, a, b, d)
@@ -29,8 +30,10 @@ loop-slot-preserved c =
     let down_z = c.requires.down z in
     record {
       size = length-set {A = ℤ} numbers (get_or s i 0) _ ∙ size;
-      written = WrittenBelow-more s ns numbers _ _ i c.loop-slot-test.true c.requires.rises fits (omega (arith, ints, near_i, near_z, down_i, down_z)) c.loop-slot.invariant.written;
-      near = AreNear-more ns numbers _ i z (get_or s i 0) fits c.requires.down (omega (arith, ints, near_i, near_z, down_i, down_z)) c.loop-slot.invariant.near;
+      written = WrittenBelow-more s ns numbers _ _ i c.loop-slot-test.true c.requires.rises fits
+          (omega (arith, ints, near_i, near_z, down_i, down_z)) c.loop-slot.invariant.written;
+      near = AreNear-more ns numbers _ i z (get_or s i 0) fits c.requires.down
+          (omega (arith, ints, near_i, near_z, down_i, down_z)) c.loop-slot.invariant.near;
       signed = AreSigned-more s numbers i _ c.loop-slot-test.true c.loop-slot.invariant.signed;
     }
 

@@ -56,4 +56,6 @@ returns-clause-lowered c =
     let high = size.high in
     let near_to = number_in-near es ns e.to c.requires.above c.requires.few c.requires.bounds in
     let down_to = number_in-down es ns e.to c.requires.sound in
-    Lowers-made es ns c.args.place (edge 0 0 (pos 0)) _ c.requires.sound c.requires.above c.requires.slots c.requires.few c.requires.bounds c.requires.place (omega (arith, ints, near, down, wide, low, high)) (grind (arith, ints, near, down, wide, low, high, near_to, down_to))
+    Lowers-made es ns c.args.place (edge 0 0 (pos 0)) _ c.requires.sound c.requires.above c.requires.slots c.requires.few
+    c.requires.bounds c.requires.place (omega (arith, ints, near, down, wide, low, high))
+    (grind (arith, ints, near, down, wide, low, high, near_to, down_to))

@@ -103,7 +103,9 @@ abbrev pub decreases-operand : goal.decreases-operand
 decreases-operand l = 20 * l.room + (9 + height l.level)
 
 abbrev pub invariant-some_args-found : goal.invariant-some_args-found
-invariant-some_args-found l = series COMMA CLOSE_PAREN (λ us. onward (λ a. give a.tree) (expr l.mode (deeper l.room) us)) [] l.fn.tokens ≡ series COMMA CLOSE_PAREN (λ us. onward (λ a. give a.tree) (expr l.mode (deeper l.room) us)) l.found l.rest
+invariant-some_args-found l =
+    series COMMA CLOSE_PAREN (λ us. onward (λ a. give a.tree) (expr l.mode (deeper l.room) us)) [] l.fn.tokens
+    ≡ series COMMA CLOSE_PAREN (λ us. onward (λ a. give a.tree) (expr l.mode (deeper l.room) us)) l.found l.rest
 
 abbrev pub decreases-some_args-found : goal.decreases-some_args-found
 decreases-some_args-found l = length l.rest

@@ -12,5 +12,8 @@ returns-clause-says g c = λ e f.
 pub returns-clause-tells : goal.returns-clause-tells
 returns-clause-tells g c = λ e f h k v m.
     c.in_ok-told.ensures.tells e f h k v
-    (λ p. let q : term_value f.values c.args.a ≤ℤ term_value f.values c.args.b = le_same (term_value e.values c.args.a) (term_value e.values c.args.b) _ _ m (omega (arith, ints)) in omega (arith, ints))
-    (λ p. let q : term_value e.values c.args.a ≤ℤ term_value e.values c.args.b = le_same (term_value f.values c.args.a) (term_value f.values c.args.b) _ _ (sym m) (omega (arith, ints)) in omega (arith, ints))
+    (λ p. let q : term_value f.values c.args.a ≤ℤ term_value f.values c.args.b =
+    le_same (term_value e.values c.args.a) (term_value e.values c.args.b) _ _ m (omega (arith, ints)) in omega (arith, ints))
+    (λ p. let q : term_value e.values c.args.a ≤ℤ term_value e.values c.args.b =
+    le_same (term_value f.values c.args.a) (term_value f.values c.args.b) _ _ (sym m) (omega (arith, ints)) in
+    omega (arith, ints))

@@ -7,7 +7,8 @@ use Rattle.pv_names.proofs.Names.find.Goals as goal
 
 place_in_Some : (c : goal.In-Some) → Some c.in-Some.at ≡ place_of c.args.self.now c.args.text.now
 place_in_Some c =
-    c.in-Some.ensures.index ∙ sym (position-map (pointwise nat_eq c.args.text.now) (λ (t : Vec ℕ). t.items) c.self.inside.texts.keys)
+    c.in-Some.ensures.index ∙ sym (position-map (pointwise nat_eq c.args.text.now)
+    (λ (t : Vec ℕ). t.items) c.self.inside.texts.keys)
     ∙ ap (λ names. place_of names c.args.text.now) c.self.view_is
 
 abbrev nothing : Option ℕ
@@ -15,7 +16,8 @@ nothing = None
 
 place_in_None : (c : goal.In-None) → nothing ≡ place_of c.args.self.now c.args.text.now
 place_in_None c =
-    c.in-None.ensures.index ∙ sym (position-map (pointwise nat_eq c.args.text.now) (λ (t : Vec ℕ). t.items) c.self.inside.texts.keys)
+    c.in-None.ensures.index ∙ sym (position-map (pointwise nat_eq c.args.text.now)
+    (λ (t : Vec ℕ). t.items) c.self.inside.texts.keys)
     ∙ ap (λ names. place_of names c.args.text.now) c.self.view_is
 
 pub returns-in-Some-clause-place : goal.returns-in-Some-clause-place

@@ -6,4 +6,11 @@ use Rattle.pv_parser.proofs.lines.send.Goals as goal
 
 pub returns : goal.returns
 unfolding reading.send
-returns c = rw (picked _ _ _ _ _ c.in_ok-label.ensures, picked _ _ _ _ _ c.in_ok-rest.ensures, picked _ _ _ _ _ c.in_ok-distance.ensures, picked _ _ _ _ _ c.in_ok-rest-2.ensures, c.in_ok-message.ensures) (first_of (search rules, grind (arith, common_steps)))
+returns c =
+    rw (
+      picked _ _ _ _ _ c.in_ok-label.ensures,
+      picked _ _ _ _ _ c.in_ok-rest.ensures,
+      picked _ _ _ _ _ c.in_ok-distance.ensures,
+      picked _ _ _ _ _ c.in_ok-rest-2.ensures,
+      c.in_ok-message.ensures,
+    ) (first_of (search rules, grind (arith, common_steps)))

@@ -6,7 +6,9 @@ use Rattle.pv_parser.specs.Reading.{member, deeper_blocks}
 use Rattle.pv_parser.proofs.members.members.Given as goal
 
 abbrev pub invariant-found : goal.invariant-found
-invariant-found l = many CLOSE_BRACE (member (deeper l.room) (deeper_blocks l.room)) [] l.fn.tokens ≡ many CLOSE_BRACE (member (deeper l.room) (deeper_blocks l.room)) l.found l.rest
+invariant-found l =
+    many CLOSE_BRACE (member (deeper l.room) (deeper_blocks l.room)) [] l.fn.tokens
+    ≡ many CLOSE_BRACE (member (deeper l.room) (deeper_blocks l.room)) l.found l.rest
 
 abbrev pub decreases-found : goal.decreases-found
 decreases-found l = length l.rest

@@ -1,16 +1,7 @@
-use Rattle.std.proofs.Common.{length, arith}
-use Rattle.pv_exprs.proofs.Rooms.{deeper_none, deeper_some, one_deeper}
-use Rattle.pv_parser.proofs.Depths.{blocks_none, blocks_some}
+use Rattle.std.proofs.Common.{length}
+use Rattle.pv_parser.proofs.Depths.{blocks_inside}
 use Rattle.pv_parser.proofs.rooms.inside_blocks.Goals as goal
 
-pub returns-then-room-eq0-clause-readers : goal.returns-then-room-eq0-clause-readers
-returns-then-room-eq0-clause-readers c = (one_deeper (length c.args.behind.now), deeper_none c.args.room (omega arith))
-
-pub returns-then-room-eq0-clause-statements : goal.returns-then-room-eq0-clause-statements
-returns-then-room-eq0-clause-statements c = (one_deeper (length c.args.behind.now), blocks_none c.args.room (omega arith))
-
-pub returns-clause-readers : goal.returns-clause-readers
-returns-clause-readers c = deeper_some c.args.room _ (omega arith)
-
 pub returns-clause-statements : goal.returns-clause-statements
-returns-clause-statements c = blocks_some c.args.room _ (omega arith)
+returns-clause-statements c =
+    blocks_inside c.args.room (length c.args.behind.now) c.inside.result c.inside.ensures.smaller c.inside.ensures.readers

@@ -7,47 +7,42 @@ use Rattle.pv_parser.specs.Reading.{stmt, deeper_blocks}
 use Rattle.pv_parser.proofs.statements.+statement.Given as goal
 
 abbrev pub decreases-block : goal.decreases-block
-decreases-block l = 7 * l.room + 0
+decreases-block l = 6 * l.room + 0
 
 abbrev pub decreases-otherwise : goal.decreases-otherwise
-decreases-otherwise l = 7 * l.room + 1
+decreases-otherwise l = 6 * l.room + 1
 
 abbrev pub decreases-else_from : goal.decreases-else_from
-decreases-else_from l = 7 * l.room + 2
+decreases-else_from l = 6 * l.room + 2
 
 abbrev pub decreases-choice : goal.decreases-choice
-decreases-choice l = 7 * l.room + 3
+decreases-choice l = 6 * l.room + 3
 
 abbrev pub decreases-while_end : goal.decreases-while_end
-decreases-while_end l = 7 * l.room + 1
+decreases-while_end l = 6 * l.room + 1
 
 abbrev pub decreases-invariant_loop : goal.decreases-invariant_loop
-decreases-invariant_loop l = 7 * l.room + 2
+decreases-invariant_loop l = 6 * l.room + 2
 
 abbrev pub decreases-counted : goal.decreases-counted
-decreases-counted l = 7 * l.room + 1
+decreases-counted l = 6 * l.room + 1
 
 abbrev pub decreases-parallel_end : goal.decreases-parallel_end
-decreases-parallel_end l = 7 * l.room + 1
+decreases-parallel_end l = 6 * l.room + 1
 
 abbrev pub decreases-parallel : goal.decreases-parallel
-decreases-parallel l = 7 * l.room + 2
-
-abbrev pub decreases-range_statement : goal.decreases-range_statement
-decreases-range_statement l = 7 * l.room + 3
-
-abbrev pub decreases-block_statement : goal.decreases-block_statement
-decreases-block_statement l = 7 * l.room + 4
+decreases-parallel l = 6 * l.room + 2
 
 abbrev pub decreases-statement : goal.decreases-statement
-decreases-statement l = 7 * l.room + 5
+decreases-statement l = 6 * l.room + 4
 
 abbrev pub decreases-statements : goal.decreases-statements
-decreases-statements l = 7 * l.room + 6
+decreases-statements l = 6 * l.room + 5
 
 abbrev pub invariant-statements-found : goal.invariant-statements-found
 invariant-statements-found l =
-    many CLOSE_BRACE (stmt (deeper l.room) (deeper_blocks l.room)) [] l.fn.tokens ≡ many CLOSE_BRACE (stmt (deeper l.room) (deeper_blocks l.room)) l.found l.rest
+    many CLOSE_BRACE (stmt (deeper l.room) (deeper_blocks l.room)) [] l.fn.tokens
+    ≡ many CLOSE_BRACE (stmt (deeper l.room) (deeper_blocks l.room)) l.found l.rest
 
 abbrev pub decreases-statements-found : goal.decreases-statements-found
 decreases-statements-found l = length l.rest

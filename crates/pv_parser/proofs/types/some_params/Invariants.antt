@@ -6,7 +6,9 @@ use Rattle.pv_parser.specs.Reading.{param}
 use Rattle.pv_parser.proofs.types.some_params.Given as goal
 
 abbrev pub invariant-found : goal.invariant-found
-invariant-found l = series COMMA CLOSE_PAREN (param (deeper l.room)) [] l.fn.tokens ≡ series COMMA CLOSE_PAREN (param (deeper l.room)) l.found l.rest
+invariant-found l =
+    series COMMA CLOSE_PAREN (param (deeper l.room)) [] l.fn.tokens
+    ≡ series COMMA CLOSE_PAREN (param (deeper l.room)) l.found l.rest
 
 abbrev pub decreases-found : goal.decreases-found
 decreases-found l = length l.rest

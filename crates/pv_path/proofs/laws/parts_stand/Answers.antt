@@ -7,10 +7,13 @@ use Rattle.pv_linear.specs.declared.Literal.{Literal}
 use Rattle.pv_path.proofs.laws.parts_stand.Goals as goal
 
 pub returns-clause-met : goal.returns-clause-met
-returns-clause-met c = let path = c.args.path.now in path_met path.choices.branches.items _ path.choices.literals.items path.choices.same path.choices.possible path.narrowed
+returns-clause-met c = let path = c.args.path.now in
+    path_met path.choices.branches.items _ path.choices.literals.items path.choices.same path.choices.possible path.narrowed
 
 pub returns-clause-follows : goal.returns-clause-follows
-returns-clause-follows c = λ e a. let path = c.args.path.now in agrees_follows e path.choices.branches.items _ path.taken (subst (λ (ls : List Literal). ∥ Narrowed (path_of path) ls ∥₁) path.choices.same path.narrowed) a
+returns-clause-follows c = λ e a. let path = c.args.path.now in
+    agrees_follows e path.choices.branches.items _ path.taken
+    (subst (λ (ls : List Literal). ∥ Narrowed (path_of path) ls ∥₁) path.choices.same path.narrowed) a
 
 pub returns-clause-stand : goal.returns-clause-stand
 returns-clause-stand c = c.args.path.now.choices.possible

@@ -1,5 +1,5 @@
 use Rattle.std.proofs.Common.{ap}
-use Rattle.pv_rules.specs.Shapes as shapes
+use Rattle.pv_ast.specs.Rules.Shapes as shapes
 use Rattle.pv_shapes.proofs.FirstStarts.{none_of_none, first_is_first}
 use Rattle.pv_shapes.proofs.firsts.first_starts_first.Goals as goal
 

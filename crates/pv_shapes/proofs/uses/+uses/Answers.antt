@@ -1,5 +1,5 @@
 use Rattle.std.proofs.Common.{rules}
-use Rattle.pv_rules.specs.Items as items
+use Rattle.pv_ast.specs.Rules.Items as items
 use Rattle.pv_shapes.proofs.Layers.{at_index, at_binary}
 use Rattle.pv_shapes.proofs.Using.{used_index, used_both}
 use Rattle.pv_shapes.proofs.uses.+uses.Goals as goal

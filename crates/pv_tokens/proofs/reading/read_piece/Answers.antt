@@ -18,13 +18,15 @@ returns-in-Blank-clause-step c =
 pub returns-in_ok-put-in-Fixed-clause-step : goal.returns-in_ok-put-in-Fixed-clause-step
 returns-in_ok-put-in-Fixed-clause-step c =
     let s = progress c.args.at c.args.names.now c.args.lexemes.now in
-    with_put c.args.text.now s _ c.in-Fixed.n _ _ _ (p.fixed {s = s} c.in-Fixed.ensures.shows) c.in_ok-put-in-Fixed.ensures.to c.in_ok-put-in-Fixed.ensures.list
+    with_put c.args.text.now s _ c.in-Fixed.n _ _ _
+    (p.fixed {s = s} c.in-Fixed.ensures.shows) c.in_ok-put-in-Fixed.ensures.to c.in_ok-put-in-Fixed.ensures.list
 
 pub returns-in_ok-put-in-Some-clause-step : goal.returns-in_ok-put-in-Some-clause-step
 returns-in_ok-put-in-Some-clause-step c =
     let s = progress c.args.at c.args.names.now c.args.lexemes.now in
     with_put c.args.text.now s _ c.in-Number.n _ _ _
-    (number_step c.args.text.now s c.in-Number.n c.in-Some.value _ c.in-Number.ensures.shows c.part.ensures c.in-Some.ensures.0 c.in-Some.ensures.1)
+    (number_step c.args.text.now s c.in-Number.n c.in-Some.value _ c.in-Number.ensures.shows c.part.ensures c.in-Some.ensures.0
+    c.in-Some.ensures.1)
     c.in_ok-put-in-Some.ensures.to c.in_ok-put-in-Some.ensures.list
 
 pub returns-in-None-clause-stop : goal.returns-in-None-clause-stop
@@ -36,7 +38,8 @@ pub returns-in_ok-put-in-Word-clause-step : goal.returns-in_ok-put-in-Word-claus
 returns-in_ok-put-in-Word-clause-step c =
     let s = progress c.args.at c.args.names.now c.args.lexemes.now in
     with_put c.args.text.now s _ c.in-Word.n _ _ _
-    (name_step c.args.text.now s c.in-Word.n _ _ _ c.in-Word.ensures.shows c.part-in-Word.ensures c.in_ok-name-in-Word.ensures.number c.in_ok-name-in-Word.ensures.list
+    (name_step c.args.text.now s c.in-Word.n _ _ _ c.in-Word.ensures.shows c.part-in-Word.ensures
+    c.in_ok-name-in-Word.ensures.number c.in_ok-name-in-Word.ensures.list
     (λ full. let e = c.in_ok-name-in-Word.ensures.full.1 full in absurd cc))
     c.in_ok-put-in-Word.ensures.to c.in_ok-put-in-Word.ensures.list
 
@@ -44,7 +47,8 @@ pub returns-in_err-name-in-Word-clause-stop : goal.returns-in_err-name-in-Word-c
 returns-in_err-name-in-Word-clause-stop c =
     let s = progress c.args.at c.args.names.now c.args.lexemes.now in
     let r = err_from_is_err_and c.from_residual-in_err-name-in-Word.result c.from_residual-in_err-name-in-Word.ensures.1 in
-    rw r.1 (name_stops c.args.text.now s c.in-Word.n _ _ r.0 c.in-Word.ensures.shows c.part-in-Word.ensures r.2 (λ e. c.in_err-name-in-Word.ensures.full.0 (ap (λ (f : NamesFault). failed f) e)))
+    rw r.1 (name_stops c.args.text.now s c.in-Word.n _ _ r.0 c.in-Word.ensures.shows c.part-in-Word.ensures r.2
+    (λ e. c.in_err-name-in-Word.ensures.full.0 (ap (λ (f : NamesFault). failed f) e)))
 
 pub returns-in-OpenComment-clause-stop : goal.returns-in-OpenComment-clause-stop
 returns-in-OpenComment-clause-stop c = λ _.

@@ -1,5 +1,5 @@
 use Rattle.std.proofs.Common.{◌≡◌, drop}
-use Rattle.pv_rules.specs.Scoping.{declared_as}
+use Rattle.pv_ast.specs.Rules.Scoping.{declared_as}
 use Rattle.pv_types.specs.Bounds.{visible_of}
 use Rattle.pv_types.proofs.scoped.in_scope.Given as goal
 

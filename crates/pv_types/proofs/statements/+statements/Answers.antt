@@ -11,7 +11,8 @@ statement_in-returns-in_ok-block-in-If-clause-found t c =
 pub statement_in-returns-in_ok-condition_of-in-While-clause-found :
     goal.statement_in-returns-in_ok-condition_of-in-While-clause-found
 statement_in-returns-in_ok-condition_of-in-While-clause-found t c =
-    rw (while_kind c.args.kind.now c.in-While.invariants c.in-While.condition c.in-While.body c.in-While.is) (grind (arith, common_steps))
+    rw (while_kind c.args.kind.now c.in-While.invariants c.in-While.condition c.in-While.body c.in-While.is)
+    (grind (arith, common_steps))
 
 pub statement_in-returns-in-For-clause-found : goal.statement_in-returns-in-For-clause-found
 statement_in-returns-in-For-clause-found t c =
@@ -19,4 +20,5 @@ statement_in-returns-in-For-clause-found t c =
 
 pub statement_in-returns-in-Par-clause-found : goal.statement_in-returns-in-Par-clause-found
 statement_in-returns-in-Par-clause-found t c =
-    rw (par_kind c.args.kind.now c.in-Par.name c.in-Par.range c.in-Par.contract c.in-Par.body c.in-Par.is) (grind (arith, common_steps))
+    rw (par_kind c.args.kind.now c.in-Par.name c.in-Par.range c.in-Par.contract c.in-Par.body c.in-Par.is)
+    (grind (arith, common_steps))

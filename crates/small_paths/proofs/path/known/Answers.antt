@@ -9,5 +9,8 @@ returns-then-is_same c = λ v a.
 
 pub returns-then-is_same-2 : goal.returns-then-is_same-2
 returns-then-is_same-2 c = λ v a.
-    let same = sym c.answered-answer.ensures ∙ ((c.if-is_same-2.ensures).0 refl ∙ c.opposite_of-other.ensures) in
-    (λ t. absurd (cc), λ h. absurd (found_denies v c.args.decisions.now c.loop-d.d-index _ _ c.args.question.now refl c.loop-d-test.true same a h))
+    let same = sym c.answered-answer.ensures ∙ ((c.if-is_same-2.ensures).0 refl ∙ c.opposite_of-other.ensures) in (
+      λ t. absurd (cc),
+      λ h. absurd (found_denies v c.args.decisions.now c.loop-d.d-index _ _ c.args.question.now refl
+          c.loop-d-test.true same a h),
+    )

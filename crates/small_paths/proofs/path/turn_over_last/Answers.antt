@@ -6,12 +6,15 @@ pub loop-last-init : goal.loop-last-init
 loop-last-init c = record { waits = λ v h. Stands-cases v _ h; bound = c.requires; fewer = omega arith }
 
 pub turned_over-requires : goal.turned_over-requires
-turned_over-requires c = last_bounded c.pop.new.self.items c.in-Some.last _ (rw c.in-Some.ensures.items at c.loop-last.invariant.bound)
+turned_over-requires c = last_bounded c.pop.new.self.items c.in-Some.last _
+    (rw c.in-Some.ensures.items at c.loop-last.invariant.bound)
 
 pub returns-in-Ok-clause-more : goal.returns-in-Ok-clause-more
 returns-in-Ok-clause-more c = λ _ v h. elim (c.loop-last.invariant.waits v h) [
   | inl a ↦ inl a
-  | inr w ↦ inr (rw c.in-Ok.ensures.items (Waits-turned v c.pop.new.self.items c.in-Some.last c.in-Some-turned_over.other (rw c.in-Some.ensures.items at w) (c.in-Some-turned_over.ensures.some v)))
+  | inr w ↦ inr
+      (rw c.in-Ok.ensures.items (Waits-turned v c.pop.new.self.items c.in-Some.last c.in-Some-turned_over.other
+      (rw c.in-Some.ensures.items at w) (c.in-Some-turned_over.ensures.some v)))
 ]
 
 pub returns-in-Ok-clause-bound : goal.returns-in-Ok-clause-bound
@@ -19,7 +22,8 @@ returns-in-Ok-clause-bound c =
     let b = rw c.in-Some.ensures.items at c.loop-last.invariant.bound in
     let l = last_bounded c.pop.new.self.items c.in-Some.last _ b in
     let o = c.in-Some-turned_over.ensures.bound in
-    rw c.in-Ok.ensures.items (bound_pushed c.pop.new.self.items c.in-Some-turned_over.other _ (bound_popped c.pop.new.self.items c.in-Some.last _ b) (omega (arith, l, o)))
+    rw c.in-Ok.ensures.items (bound_pushed c.pop.new.self.items c.in-Some-turned_over.other _
+    (bound_popped c.pop.new.self.items c.in-Some.last _ b) (omega (arith, l, o)))
 
 pub returns-in-Ok-clause-fewer : goal.returns-in-Ok-clause-fewer
 returns-in-Ok-clause-fewer c = λ _.
@@ -38,11 +42,13 @@ loop-last-preserved c =
         | inr w ↦ inr (Waits-dropped v c.pop.new.self.items c.in-Some.last (rw c.in-Some.ensures.items at w) (none v))
       ];
       bound = bound_popped c.pop.new.self.items c.in-Some.last _ (rw c.in-Some.ensures.items at c.loop-last.invariant.bound);
-      fewer = let f = rw c.in-Some.ensures.items at c.loop-last.invariant.fewer in let l = open_sides_last c.pop.new.self.items c.in-Some.last in omega (arith, f, l);
+      fewer = let f = rw c.in-Some.ensures.items at c.loop-last.invariant.fewer in let l =
+          open_sides_last c.pop.new.self.items c.in-Some.last in omega (arith, f, l);
     }
 
 pub returns-clause-done : goal.returns-clause-done
 returns-clause-done c = λ _ v h. elim (c.loop-last.invariant.waits v h) [
   | inl a ↦ a
-  | inr w ↦ absurd (Waits-empty v c.loop-last.decisions.items (let n = c.in_default.ensures.cases in let k = c.loop-last.decisions.ok.0 in omega (arith, n, k)) w)
+  | inr w ↦ absurd (Waits-empty v c.loop-last.decisions.items
+      (let n = c.in_default.ensures.cases in let k = c.loop-last.decisions.ok.0 in omega (arith, n, k)) w)
 ]

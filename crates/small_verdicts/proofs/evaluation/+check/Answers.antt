@@ -7,5 +7,6 @@ use Rattle.small_verdicts.proofs.evaluation.+check.Goals as goal
 
 pub check-requires-in-And : goal.check-requires-in-And
 check-requires-in-And g t c κs within =
-    let second : is_truth (sort_of c.get-in-And.result.now) ≡ true = rw c.get-in-And.ensures ((truth_parts c.args.e.now _ _ _ (rw c.in-And.is at c.in-Binary.is) c.requires.truth).1) in
+    let second : is_truth (sort_of c.get-in-And.result.now) ≡ true =
+    rw c.get-in-And.ensures ((truth_parts c.args.e.now _ _ _ (rw c.in-And.is at c.in-Binary.is) c.requires.truth).1) in
     (search (rules, views.the_lemmas), (search rules, (second, search (rules, folds.the_lemmas))))

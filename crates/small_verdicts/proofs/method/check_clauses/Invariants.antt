@@ -12,7 +12,9 @@ invariant-loop-clause g l =
     let rest = drop l.clause-index l.clauses in
     record {
       asks : Asks g.K.Asker.follows g.K.Asker.stands l.initial.asker l.asker;
-      says : Under g.K.Asker.follows l.asker (λ v. broken_clause (chosen_by l.condition) l.clauses (scene_at v l.store.terms.entries l.returned) ≡ broken_clause (chosen_by l.condition) rest (scene_at v l.store.terms.entries l.returned));
+      says : Under g.K.Asker.follows l.asker (λ v.
+          broken_clause (chosen_by l.condition) l.clauses (scene_at v l.store.terms.entries l.returned)
+          ≡ broken_clause (chosen_by l.condition) rest (scene_at v l.store.terms.entries l.returned));
       sorted : is_sorted_clauses rest ≡ true;
       size : size_of l.store.terms.entries + unsigned_abs l.returned.plus + weight (literals_of_clauses rest) ≤ 2 ^ 97;
     }

@@ -11,7 +11,9 @@ invariant-run_all-loop-s g l =
     let rest = drop l.s-index l.block in
     record {
       asks : Asks g.K.Asker.follows g.K.Asker.stands l.initial.asker l.asker;
-      says : Under g.K.Asker.follows l.asker (λ v. run_of_block l.block (variables_of v l.initial.store.terms.entries) ≡ run_of_block rest (variables_of v l.store.terms.entries));
+      says : Under g.K.Asker.follows l.asker (λ v. run_of_block l.block (variables_of v l.initial.store.terms.entries)
+          ≡ run_of_block rest (variables_of v l.store.terms.entries));
       sorted : is_sorted_block rest ≡ true;
-      size : size_of l.store.terms.entries + weight (literals_of_block rest) ≤ size_of l.initial.store.terms.entries + weight (literals_of_block l.block);
+      size : size_of l.store.terms.entries + weight (literals_of_block rest) ≤ size_of l.initial.store.terms.entries + weight
+          (literals_of_block l.block);
     }

@@ -7,10 +7,12 @@ pub invariant_of-self : goal.invariant_of-self
 invariant_of-self c =
     let self = c.args.self.now in
     record {
-      same = self.same ∙ sym (literals_either (is_ok c.push.result) self.branches.items c.push.new.self.items c.push.ensures.items);
+      same = self.same ∙ sym (literals_either (is_ok c.push.result) self.branches.items c.push.new.self.items
+          c.push.ensures.items);
       few = self.few;
       near = self.near;
       low = self.low;
       undecided = self.undecided;
-      possible = possible_either (is_ok c.push.result) self.branches.items c.push.new.self.items c.push.ensures.items self.possible;
+      possible = possible_either (is_ok c.push.result) self.branches.items c.push.new.self.items c.push.ensures.items
+          self.possible;
     }

@@ -12,13 +12,18 @@ invariant_of-self-2 c =
     let l = c.args.literal in
     let ls = self.choices.literals.items in
     let ok = c.push.ensures.succeeds (omega (arith, c.in_ok-reserve.ensures.ok)) in
-    let asked : c.push.new.self.items ≡ self.asked.items ++ l ∷ [] = pushed c.push.result _ _ _ ok c.push.ensures.items ∙ ap (λ xs. xs ++ l ∷ []) c.reserve.ensures.items in
+    let asked : c.push.new.self.items ≡ self.asked.items ++ l ∷ [] = pushed c.push.result _ _ _ ok c.push.ensures.items
+    ∙ ap (λ xs. xs ++ l ∷ []) c.reserve.ensures.items in
     let more : c.decide.new.self.literals.items ≡ ls ++ l ∷ [] = c.in_ok-decide.ensures.literals in
-    let path : take self.kept c.decide.new.self.literals.items ++ c.push.new.self.items ≡ (take self.kept ls ++ self.asked.items) ++ l ∷ [] = ap (λ xs. take self.kept xs ++ c.push.new.self.items) more ∙ ap (λ xs. take self.kept (ls ++ l ∷ []) ++ xs) asked ∙ path_more self.kept ls self.asked.items l self.within in
+    let path : take self.kept c.decide.new.self.literals.items ++ c.push.new.self.items ≡ (take self.kept ls ++ self.asked.items)
+    ++ l ∷ [] = ap (λ xs. take self.kept xs ++ c.push.new.self.items) more
+    ∙ ap (λ xs. take self.kept (ls ++ l ∷ []) ++ xs) asked ∙ path_more self.kept ls self.asked.items l self.within in
     record {
       within = rw more (omega (arith, length-append ls (l ∷ []), self.within));
-      narrowed = narrowed_decided (take self.kept ls ++ self.asked.items) _ ls _ l path more self.narrowed (open_narrower _ _ _ self.narrowed c.requires.open).1;
-      fits = rw (branch_turns-fact self.choices.branches.items c.decide.new.self.branches.items l c.in_ok-decide.ensures.ok) self.fits;
+      narrowed = narrowed_decided (take self.kept ls ++ self.asked.items) _ ls _ l path more self.narrowed
+          (open_narrower _ _ _ self.narrowed c.requires.open).1;
+      fits = rw (branch_turns-fact self.choices.branches.items c.decide.new.self.branches.items l c.in_ok-decide.ensures.ok)
+          self.fits;
       few = self.few;
       numbered = self.numbered;
     }

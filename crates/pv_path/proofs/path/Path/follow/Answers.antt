@@ -7,7 +7,8 @@ invariant_of-self c =
     let self = c.args.self.now in
     record {
       within = self.within;
-      narrowed = narrowed_either (is_ok c.push.result) self.kept self.choices.literals.items self.asked.items c.push.new.self.items c.args.literal c.push.ensures.items self.narrowed c.requires;
+      narrowed = narrowed_either (is_ok c.push.result) self.kept self.choices.literals.items self.asked.items
+          c.push.new.self.items c.args.literal c.push.ensures.items self.narrowed c.requires;
       fits = self.fits;
       few = self.few;
       numbered = self.numbered;

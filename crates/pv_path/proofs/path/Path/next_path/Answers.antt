@@ -5,10 +5,12 @@ use Rattle.pv_path.proofs.PartsLemmas.{stands_over}
 use Rattle.pv_path.proofs.path.Path.next_path.Goals as goal
 
 pub returns-in_default-clause-done : goal.returns-in_default-clause-done
-returns-in_default-clause-done c = λ _. let closed = rw c.deref.ensures.value at c.in_default.ensures.none in closed_sides [] c.args.self.now.choices.branches.items closed
+returns-in_default-clause-done c = λ _. let closed = rw c.deref.ensures.value at c.in_default.ensures.none in
+    closed_sides [] c.args.self.now.choices.branches.items closed
 
 pub returns-then-self-eq-MOST_PATHS-clause-splits : goal.returns-then-self-eq-MOST_PATHS-clause-splits
-returns-then-self-eq-MOST_PATHS-clause-splits c = λ _ none. let some = rw c.deref.ensures.value at c.in-Some.ensures.some in side_open c.args.self.now.choices.branches.items _ _ some none
+returns-then-self-eq-MOST_PATHS-clause-splits c = λ _ none. let some = rw c.deref.ensures.value at c.in-Some.ensures.some in
+    side_open c.args.self.now.choices.branches.items _ _ some none
 
 pub invariant_of-self-2 : goal.invariant_of-self-2
 invariant_of-self-2 c =
@@ -17,7 +19,8 @@ invariant_of-self-2 c =
     let kept : c.len-self.result ≡ length literals.items = omega (arith, c.len-self.ensures, literals.ok.0) in
     record {
       within = omega (arith, kept);
-      narrowed = narrowed_kept_as literals.items c.clear.new.self.items c.len-self.result kept c.clear.ensures.items c.turn_over.new.self.undecided;
+      narrowed = narrowed_kept_as literals.items c.clear.new.self.items c.len-self.result kept c.clear.ensures.items
+          c.turn_over.new.self.undecided;
       fits = omega arith;
       few = grind (arith, self.few, c.if-self-eq-MOST_PATHS.false);
       numbered = omega arith;
@@ -33,4 +36,5 @@ pub returns-clause-path : goal.returns-clause-path
 returns-clause-path c = λ _.
     let literals = c.turn_over.new.self.literals in
     let kept : c.len-self.result ≡ length literals.items = omega (arith, c.len-self.ensures, literals.ok.0) in
-    path_kept literals.items c.clear.new.self.items c.len-self.result kept c.clear.ensures.items ∙ c.self-1.given.0 ∙ sym (literals_of_decisions c.turn_over.new.self.branches.items)
+    path_kept literals.items c.clear.new.self.items c.len-self.result kept c.clear.ensures.items ∙ c.self-1.given.0
+    ∙ sym (literals_of_decisions c.turn_over.new.self.branches.items)

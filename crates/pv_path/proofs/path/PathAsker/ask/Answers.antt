@@ -14,14 +14,16 @@ pub follow-requires : goal.follow-requires
 follow-requires c = settled_true _ c.args.literal _ _ c.in_ok-settle.ensures c.in-Told-true.is c.in-Told-true.field-0-test
 
 pub follow-requires-in-Told-false : goal.follow-requires-in-Told-false
-follow-requires-in-Told-false c = rw c.opposite.ensures (settled_false _ c.args.literal _ _ c.in_ok-settle.ensures c.in-Told-false.is c.in-Told-false.field-0-test)
+follow-requires-in-Told-false c = rw c.opposite.ensures
+    (settled_false _ c.args.literal _ _ c.in_ok-settle.ensures c.in-Told-false.is c.in-Told-false.field-0-test)
 
 pub returns-then-len-eq-MOST_LITERALS-clause-full : goal.returns-then-len-eq-MOST_LITERALS-clause-full
 returns-then-len-eq-MOST_LITERALS-clause-full c =
     let self = c.args.self.now in
     let literals = self.choices.literals in
     let count : length literals.items ≡ 65536 = omega (arith, literals.ok.0, c.len.ensures, c.if-len-eq-MOST_LITERALS.true) in
-    long _ literals.items self.narrowed count (subst CanBeMet (sym self.choices.same) (met_of_possible self.choices.branches.items self.choices.possible))
+    long _ literals.items self.narrowed count (subst CanBeMet (sym self.choices.same)
+    (met_of_possible self.choices.branches.items self.choices.possible))
 
 pub returns-then-len-eq-MOST_LITERALS-clause-full_literals : goal.returns-then-len-eq-MOST_LITERALS-clause-full_literals
 returns-then-len-eq-MOST_LITERALS-clause-full_literals c =
@@ -32,31 +34,42 @@ returns-then-len-eq-MOST_LITERALS-clause-full_literals c =
 
 pub returns-in_ok-follow-in-Told-true-clause-decides : goal.returns-in_ok-follow-in-Told-true-clause-decides
 returns-in_ok-follow-in-Told-true-clause-decides c =
-    entailed (ap (λ choices. decisions_of choices.branches.items) c.in_ok-follow-in-Told-true.ensures.choices) (settled_true _ c.args.literal _ _ c.in_ok-settle.ensures c.in-Told-true.is c.in-Told-true.field-0-test)
+    entailed (ap (λ choices. decisions_of choices.branches.items) c.in_ok-follow-in-Told-true.ensures.choices)
+    (settled_true _ c.args.literal _ _ c.in_ok-settle.ensures c.in-Told-true.is c.in-Told-true.field-0-test)
 
 pub returns-in_ok-follow-in-Told-true-clause-not_full : goal.returns-in_ok-follow-in-Told-true-clause-not_full
-returns-in_ok-follow-in-Told-true-clause-not_full c = λ _ open_. not_open _ c.args.literal (settled_true _ c.args.literal _ _ c.in_ok-settle.ensures c.in-Told-true.is c.in-Told-true.field-0-test) open_
+returns-in_ok-follow-in-Told-true-clause-not_full c = λ _ open_.
+    not_open _ c.args.literal (settled_true _ c.args.literal _ _ c.in_ok-settle.ensures c.in-Told-true.is
+    c.in-Told-true.field-0-test) open_
 
 pub returns-in_ok-follow-in-Told-false-clause-decides : goal.returns-in_ok-follow-in-Told-false-clause-decides
 returns-in_ok-follow-in-Told-false-clause-decides c =
-    entailed (ap (λ choices. decisions_of choices.branches.items) c.in_ok-follow-in-Told-false.ensures.choices) (settled_false _ c.args.literal _ _ c.in_ok-settle.ensures c.in-Told-false.is c.in-Told-false.field-0-test)
+    entailed (ap (λ choices. decisions_of choices.branches.items) c.in_ok-follow-in-Told-false.ensures.choices)
+    (settled_false _ c.args.literal _ _ c.in_ok-settle.ensures c.in-Told-false.is c.in-Told-false.field-0-test)
 
 pub returns-in_ok-follow-in-Told-false-clause-not_full : goal.returns-in_ok-follow-in-Told-false-clause-not_full
-returns-in_ok-follow-in-Told-false-clause-not_full c = λ _ open_. opposite_not_open _ c.args.literal (settled_false _ c.args.literal _ _ c.in_ok-settle.ensures c.in-Told-false.is c.in-Told-false.field-0-test) open_
+returns-in_ok-follow-in-Told-false-clause-not_full c = λ _ open_.
+    opposite_not_open _ c.args.literal (settled_false _ c.args.literal _ _ c.in_ok-settle.ensures c.in-Told-false.is
+    c.in-Told-false.field-0-test) open_
 
 pub returns-in_ok-decide-in-Undecided-clause-decides : goal.returns-in_ok-decide-in-Undecided-clause-decides
-returns-in_ok-decide-in-Undecided-clause-decides c = decides_open _ c.args.self.now.choices.branches.items _ c.args.literal c.in_ok-decide-in-Undecided.ensures.branches (settled_open _ c.args.literal _ c.in_ok-settle.ensures c.in-Undecided.is)
+returns-in_ok-decide-in-Undecided-clause-decides c =
+    decides_open _ c.args.self.now.choices.branches.items _ c.args.literal c.in_ok-decide-in-Undecided.ensures.branches
+    (settled_open _ c.args.literal _ c.in_ok-settle.ensures c.in-Undecided.is)
 
 pub returns-in_ok-decide-in-Undecided-clause-turns : goal.returns-in_ok-decide-in-Undecided-clause-turns
 returns-in_ok-decide-in-Undecided-clause-turns c =
     ap (λ n. take n (branch_turns c.decide.new.self.choices.branches.items)) c.decide.ensures.taken
-    ∙ ap (λ ns. take c.args.self.now.taken ns) (branch_turns-fact c.args.self.now.choices.branches.items _ c.args.literal c.in_ok-decide-in-Undecided.ensures.branches)
+    ∙ ap (λ ns. take c.args.self.now.taken ns)
+    (branch_turns-fact c.args.self.now.choices.branches.items _ c.args.literal c.in_ok-decide-in-Undecided.ensures.branches)
 
 pub returns-in_ok-decide-in-Undecided-clause-keeps : goal.returns-in_ok-decide-in-Undecided-clause-keeps
-returns-in_ok-decide-in-Undecided-clause-keeps c = λ e. stands_open e c.args.self.now.choices.branches.items _ c.args.literal c.in_ok-decide-in-Undecided.ensures.branches
+returns-in_ok-decide-in-Undecided-clause-keeps c = λ e.
+    stands_open e c.args.self.now.choices.branches.items _ c.args.literal c.in_ok-decide-in-Undecided.ensures.branches
 
 pub returns-in_ok-decide-in-Undecided-clause-adds : goal.returns-in_ok-decide-in-Undecided-clause-adds
-returns-in_ok-decide-in-Undecided-clause-adds c = λ e. stands_less e c.args.self.now.choices.branches.items _ (Open c.args.literal) c.in_ok-decide-in-Undecided.ensures.branches
+returns-in_ok-decide-in-Undecided-clause-adds c = λ e.
+    stands_less e c.args.self.now.choices.branches.items _ (Open c.args.literal) c.in_ok-decide-in-Undecided.ensures.branches
 
 pub returns-in_ok-decide-in-Undecided-clause-not_full : goal.returns-in_ok-decide-in-Undecided-clause-not_full
 returns-in_ok-decide-in-Undecided-clause-not_full c = λ count _.

@@ -10,7 +10,9 @@ use Rattle.pv_path.proofs.path.PathAsker.turn.Goals as goal
 pub overflow_add-self : goal.overflow_add-self
 overflow_add-self c =
     let branches = c.args.self.now.choices.branches in
-    let few : c.args.self.now.taken + 1 < 2 ^ 64 = turns_fit branches.items c.args.self.now.taken branches.len branches.cap c.args.self.now.fits branches.ok.0 branches.ok.1 branches.small in
+    let few : c.args.self.now.taken + 1 < 2 ^ 64 =
+    turns_fit branches.items c.args.self.now.taken branches.len branches.cap c.args.self.now.fits branches.ok.0 branches.ok.1
+    branches.small in
     search rules
 
 pub invariant_of-self : goal.invariant_of-self
@@ -33,7 +35,9 @@ returns-in-Some-clause-decides c =
 pub overflow_add-self-2 : goal.overflow_add-self-2
 overflow_add-self-2 c =
     let branches = c.args.self.now.choices.branches in
-    let few : c.args.self.now.taken + 1 < 2 ^ 64 = turns_fit branches.items c.args.self.now.taken branches.len branches.cap c.args.self.now.fits branches.ok.0 branches.ok.1 branches.small in
+    let few : c.args.self.now.taken + 1 < 2 ^ 64 =
+    turns_fit branches.items c.args.self.now.taken branches.len branches.cap c.args.self.now.fits branches.ok.0 branches.ok.1
+    branches.small in
     search rules
 
 pub invariant_of-self-2 : goal.invariant_of-self-2
@@ -53,13 +57,15 @@ pub returns-clause-turns : goal.returns-clause-turns
 returns-clause-turns c =
     let self = c.args.self.now in
     let none = rw c.deref.ensures.value at c.in_default.ensures.none in
-    take_first_turn self.choices.branches.items _ self.taken c.in_ok-take_first.ensures.ok (all_taken (branch_turns self.choices.branches.items) self.taken none self.fits)
+    take_first_turn self.choices.branches.items _ self.taken c.in_ok-take_first.ensures.ok
+    (all_taken (branch_turns self.choices.branches.items) self.taken none self.fits)
 
 pub returns-clause-decides : goal.returns-clause-decides
 returns-clause-decides c =
     let self = c.args.self.now in
     let none = rw c.deref.ensures.value at c.in_default.ensures.none in
-    turn_added self.choices.branches.items _ self.taken c.in_ok-take_first.ensures.ok (all_taken (branch_turns self.choices.branches.items) self.taken none self.fits)
+    turn_added self.choices.branches.items _ self.taken c.in_ok-take_first.ensures.ok
+    (all_taken (branch_turns self.choices.branches.items) self.taken none self.fits)
 
 pub returns-clause-keeps : goal.returns-clause-keeps
 returns-clause-keeps c = λ e. stands_turn e c.args.self.now.choices.branches.items _ c.in_ok-take_first.ensures.ok

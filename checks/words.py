@@ -1,0 +1,27 @@
+#!/usr/bin/env python3
+"""words.py PROGRAM: runs PROGRAM on words of the command line of which one isn't UTF-8, which no test inside a crate can hand over.
+
+Such words are none of the forms: the answer is the line on the usage, and status 4.
+"""
+import os
+import subprocess
+import sys
+
+USAGE = b"usage: vercors verify FILE | run FILE SCHEDULE | explain FILE UNIT | big N\n"
+ROWS = [[b"\xff"], [b"verify", b"\xff"], [b"\xff", b"a.pvl"], [b"verify", b"a.pvl", b"\xc3"], [b"verify", b"\xed\xa0\x80"]]
+
+
+def main(program):
+    program = os.path.abspath(program)
+    wrong = 0
+    for words in ROWS:
+        run = subprocess.run([program.encode(), *words], capture_output=True, timeout=60)
+        if (run.returncode, run.stdout) != (4, USAGE):
+            wrong += 1
+            print(f"{words}: status {run.returncode}, `{run.stdout.decode()}`")
+    print(f"{len(ROWS) - wrong} lines of words that aren't UTF-8 answered right, {wrong} wrong")
+    return 1 if wrong else 0
+
+
+if __name__ == "__main__":
+    sys.exit(main(sys.argv[1]))

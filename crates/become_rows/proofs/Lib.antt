@@ -1,5 +1,0 @@
-mod Nodes
-mod Rules
-mod Objects
-mod Arrays
-mod Threads

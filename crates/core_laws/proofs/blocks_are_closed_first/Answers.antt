@@ -1,5 +1,0 @@
-use Rattle.core_laws.proofs.Closing.{reached_closes}
-use Rattle.core_laws.proofs.blocks_are_closed_first.Goals as goal
-
-pub returns : goal.returns
-returns c = reached_closes

@@ -1,5 +1,0 @@
-use Rattle.core_laws.proofs.Fixed.{names_keep}
-use Rattle.core_laws.proofs.contracts_speak_of_fixed_names.Goals as goal
-
-pub returns : goal.returns
-returns c = names_keep

@@ -1,5 +1,0 @@
-use Rattle.core_laws.proofs.Keeping.{program_keeps}
-use Rattle.core_laws.proofs.fixed_names_are_never_assigned.Goals as goal
-
-pub returns : goal.returns
-returns c = program_keeps

@@ -1,5 +1,0 @@
-use Rattle.core_laws.proofs.PresentStmts.{old_is_kept}
-use Rattle.core_laws.proofs.old_states_are_kept.Goals as goal
-
-pub returns : goal.returns
-returns c = old_is_kept

@@ -1,5 +1,0 @@
-use Rattle.core_laws.proofs.Ignoring.{present_alone}
-use Rattle.core_laws.proofs.the_present_ignores_the_old_state.Goals as goal
-
-pub returns : goal.returns
-returns c = present_alone

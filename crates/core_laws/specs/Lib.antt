@@ -1,7 +1,0 @@
-pub mod Carrying
-pub mod Naming
-pub mod Assigning
-pub mod Fixed
-pub mod Present
-pub mod Closing
-pub mod Stacks

@@ -1,0 +1,14 @@
+pub mod Scopes
+pub mod Listing
+pub mod Keeping
+pub mod Carried
+pub mod Fixed
+pub mod Present
+pub mod PresentStmts
+pub mod Ignoring
+pub mod Stacks
+pub mod Finding
+pub mod Naming
+pub mod Closing
+pub mod Declared
+pub mod Opening

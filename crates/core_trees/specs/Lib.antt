@@ -1,0 +1,10 @@
+pub mod Messages
+pub mod Placing
+pub mod Positions
+pub mod Resolved
+pub mod Returns
+pub mod Naming
+pub mod Opening
+pub mod Assigned
+pub mod Formulas
+pub mod Throughout

@@ -1,5 +1,0 @@
-use Rattle.fact_laws.proofs.Goodness.{judges_as_lazy_run}
-use Rattle.fact_laws.proofs.judges_as_lazy_run.Goals as goal
-
-pub returns : goal.returns
-returns c = judges_as_lazy_run

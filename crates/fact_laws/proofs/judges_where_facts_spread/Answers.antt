@@ -1,5 +1,0 @@
-use Rattle.fact_laws.proofs.Lockstep.{judges_where_facts_spread}
-use Rattle.fact_laws.proofs.judges_where_facts_spread.Goals as goal
-
-pub returns : goal.returns
-returns c = judges_where_facts_spread

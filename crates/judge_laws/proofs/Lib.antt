@@ -1,0 +1,14 @@
+mod Taking
+mod Formulas
+pub mod Statements
+mod DirectForm
+mod TrueTables
+mod Falling
+pub mod Sources
+mod Drawing
+pub mod OneGo
+pub mod Backing
+pub mod Lookups
+pub mod Judging
+mod Together
+mod Picking

@@ -1,0 +1,98 @@
+-- A drawn run in one go: how far it comes, with what it shows and takes on the way.
+use Rattle.std.specs.Prelude.{◌≡◌, ℕ, ℤ, List, [], ◌++◌}
+use Rattle.pv_values.specs.declared.value.Value.{Value}
+use Rattle.pv_picks.specs.Plain.Core.{Expression, Formula, Program, Block}
+use Rattle.pv_picks.specs.Formulas.Evaluation.{Scene, evaluate}
+use Rattle.pv_picks.specs.Judge.States.{State, Bind, Cells}
+use Rattle.pv_picks.specs.Judge.Settings.{Setting, Next, no_frame, formula_reader}
+use Rattle.pv_picks.specs.Judge.Inhaling.{inhale}
+use Rattle.pv_picks.specs.Judge.Exhaling.{Giving, exhale}
+use Rattle.pv_picks.specs.Judge.Rows.{Site, access_reader}
+use Rattle.pv_picks.specs.Judge.Judging.{judge_block}
+use Rattle.pv_picks.specs.Lazy.Runs.{Memory, LazyEnd, final, Outcome, at_end, Lazily, lazy, Drawn, from_values}
+
+-- goes on with a value from a state, or has ended
+pub data Came (A : Type 0) : Type 0 where
+  Goes : A → State → Memory → Drawn → Came A
+  Stopped : LazyEnd → Memory → Came A
+
+abbrev pub Ran : Type 0 → Type 0
+Ran A = Outcome (Came A)
+
+abbrev pub gone : {A : Type 0} → A → State → Memory → Drawn → Ran A
+gone a state memory drawn = at_end (Goes a state memory drawn)
+
+-- the run in one go, on values and turns
+abbrev pub one_go : {A : Type 0} → (ℕ → ℤ) → (ℕ → ℕ) → Setting (Lazily Drawn (Came A))
+one_go values turns = lazy Stopped (from_values values turns)
+
+-- what comes after
+abbrev pub after : {A E : Type 0} → (LazyEnd → Memory → E) → Came A → (A → State → Lazily Drawn E) → Outcome E
+after stop (Goes a state memory drawn) next = next a state memory drawn
+after stop (Stopped end memory) next = at_end (stop end memory)
+
+abbrev pub then_run : {A E : Type 0} → (LazyEnd → Memory → E) → Ran A → (A → State → Lazily Drawn E) → Outcome E
+then_run stop o next = record {
+  shows = o.shows ++ (after stop o.end next).shows;
+  values = o.values ++ (after stop o.end next).values;
+  picks = o.picks ++ (after stop o.end next).picks;
+  end = (after stop o.end next).end;
+}
+
+-- expressions, formulas and statements in one go
+abbrev pub evaluated : (ℕ → ℤ) → (ℕ → ℕ) → Scene → Expression → State → Memory → Drawn → Ran Value
+evaluated values turns scene e = evaluate (access_reader (one_go values turns)) (access_reader (one_go values turns)) scene e gone
+
+abbrev pub inhaled_at : (ℕ → ℤ) → (ℕ → ℕ) → Bind → Formula → State → Memory → Drawn → Ran (Unit {0})
+inhaled_at values turns bind formula = inhale (one_go values turns) bind formula (gone tt)
+
+abbrev pub exhaled_at : (ℕ → ℤ) → (ℕ → ℕ) → Giving → Formula → State → Memory → Drawn → Ran (Unit {0})
+exhaled_at values turns giving formula = exhale (one_go values turns) giving formula (gone tt)
+
+abbrev pub EvaluatesInOneGo : {E : Type 0} → (LazyEnd → Memory → E) → Type 0
+EvaluatesInOneGo {E} stop = (values : ℕ → ℤ) (turns : ℕ → ℕ) (scene : Scene) (e : Expression)
+    (next : Value → Next (Lazily Drawn E)) (s : State) (m : Memory) (d : Drawn)
+    → evaluate (access_reader (lazy stop (from_values values turns)))
+    (access_reader (lazy stop (from_values values turns))) scene e next s m d
+    ≡ then_run stop (evaluated values turns scene e s m d) next
+
+abbrev pub InhalesInOneGo : {E : Type 0} → (LazyEnd → Memory → E) → Type 0
+InhalesInOneGo {E} stop = (values : ℕ → ℤ) (turns : ℕ → ℕ) (bind : Bind) (formula : Formula)
+    (next : Next (Lazily Drawn E)) (s : State) (m : Memory) (d : Drawn)
+    → inhale (lazy stop (from_values values turns)) bind formula next s m d
+    ≡ then_run stop (inhaled_at values turns bind formula s m d) (λ u. next)
+
+abbrev pub ExhalesInOneGo : {E : Type 0} → (LazyEnd → Memory → E) → Type 0
+ExhalesInOneGo {E} stop = (values : ℕ → ℤ) (turns : ℕ → ℕ) (giving : Giving) (formula : Formula)
+    (next : Next (Lazily Drawn E)) (s : State) (m : Memory) (d : Drawn)
+    → exhale (lazy stop (from_values values turns)) giving formula next s m d
+    ≡ then_run stop (exhaled_at values turns giving formula s m d) (λ u. next)
+
+-- a value in a formula that reads these cells; a block
+abbrev pub valued : (ℕ → ℤ) → (ℕ → ℕ) → Cells → Cells → Scene → Expression → State → Memory → Drawn → Ran Value
+valued values turns now old scene e =
+    evaluate (formula_reader (one_go values turns) (λ s. now) (no_frame (one_go values turns)))
+    (formula_reader (one_go values turns) (λ s. old) (no_frame (one_go values turns))) scene e gone
+
+abbrev pub judged : (ℕ → ℤ) → (ℕ → ℕ) → Program → Site → Block → State → Memory → Drawn → Ran (Unit {0})
+judged values turns p site block = judge_block (one_go values turns) p site block (gone tt)
+
+abbrev pub ValuesInOneGo : {E : Type 0} → (LazyEnd → Memory → E) → Type 0
+ValuesInOneGo {E} stop = (values : ℕ → ℤ) (turns : ℕ → ℕ) (now old : Cells) (scene : Scene)
+    (e : Expression) (next : Value → Next (Lazily Drawn E)) (s : State) (m : Memory) (d : Drawn)
+    → evaluate (formula_reader (lazy stop (from_values values turns)) (λ t. now)
+    (no_frame (lazy stop (from_values values turns))))
+    (formula_reader (lazy stop (from_values values turns)) (λ t. old) (no_frame (lazy stop (from_values values turns)))) scene e
+    next s m d
+    ≡ then_run stop (valued values turns now old scene e s m d) next
+
+abbrev pub JudgesInOneGo : {E : Type 0} → (LazyEnd → Memory → E) → Type 0
+JudgesInOneGo {E} stop = (values : ℕ → ℤ) (turns : ℕ → ℕ) (p : Program) (site : Site)
+    (block : Block) (next : Next (Lazily Drawn E)) (s : State) (m : Memory) (d : Drawn)
+    → judge_block (lazy stop (from_values values turns)) p site block next s m d
+    ≡ then_run stop (judged values turns p site block s m d) (λ u. next)
+
+-- a run to its end is its parts in one go, each with what comes next
+abbrev pub StepsInOneGo : Type 0
+StepsInOneGo =
+    EvaluatesInOneGo final × ValuesInOneGo final × InhalesInOneGo final × ExhalesInOneGo final × JudgesInOneGo final

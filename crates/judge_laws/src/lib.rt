@@ -1,0 +1,63 @@
+//! Laws of what programs mean: each is a function that proves its clause and answers nothing.
+#![tactic(auto)]
+
+ghost use Rattle.judge_laws.specs.Judging.{JudgesAsLazy, JudgesAsDrawn, BlocksWithoutPattern};
+ghost use Rattle.judge_laws.specs.Drawing.{RunsAsDrawn, DrawnRunsAsLazy, RemembersPicks};
+ghost use Rattle.judge_laws.specs.OneGo.{StepsInOneGo};
+ghost use Rattle.judge_laws.specs.Statements.{InhalesDirectly, ExhalesDirectly, WasHeld, ReadsNoTrueTable};
+
+/// Inhaling a formula, and what comes next, is inhaling it in one go, and then what comes next.
+pub fn inhales_directly()
+    ensures { InhalesDirectly }
+{}
+
+/// Exhaling a formula, and what comes next, is exhaling it in one go, and then what comes next.
+pub fn exhales_directly()
+    ensures { ExhalesDirectly }
+{}
+
+/// What is exhaled was held: nothing is there in a greater amount than before.
+pub fn was_held()
+    ensures { WasHeld }
+{}
+
+/// Under a table of true arithmetic the judge ends as under the empty one.
+pub fn reads_no_true_table()
+    ensures { ReadsNoTrueTable }
+{}
+
+/// The lazy run of evidence is the drawn run on the values and turns that it takes.
+pub fn runs_as_drawn()
+    ensures { RunsAsDrawn }
+{}
+
+/// Evidence with the picks of a drawn run, whose maps and table fit what it remembers, has that run.
+pub fn drawn_runs_as_lazy()
+    ensures { DrawnRunsAsLazy }
+{}
+
+/// The judge ends as the lazy run does, or is blocked.
+pub fn judges_as_lazy()
+    ensures { JudgesAsLazy }
+{}
+
+/// On evidence with a pattern the judge ends as the drawn run on its values and turns, or is blocked.
+pub fn judges_as_drawn()
+    ensures { JudgesAsDrawn }
+{}
+
+/// On evidence without a pattern the judge is blocked.
+pub fn blocks_without_pattern()
+    ensures { BlocksWithoutPattern }
+{}
+
+/// What a drawn run remembers of its picks at the end are the picks that it took.
+pub fn remembers_picks()
+    ensures { RemembersPicks }
+{}
+
+/// A drawn run is its parts in one go, each with what comes next: expressions of bodies and of formulas, inhaling and exhaling, and
+/// blocks of statements.
+pub fn steps_in_one_go()
+    ensures { StepsInOneGo }
+{}

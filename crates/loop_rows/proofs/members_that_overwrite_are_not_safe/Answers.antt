@@ -1,5 +1,0 @@
-use Rattle.loop_rows.proofs.Worked.{overwriting-unsafe}
-use Rattle.loop_rows.proofs.members_that_overwrite_are_not_safe.Goals as goal
-
-pub returns : goal.returns
-returns c = overwriting-unsafe

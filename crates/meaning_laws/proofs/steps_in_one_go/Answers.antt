@@ -1,5 +1,0 @@
-use Rattle.meaning_laws.proofs.OneGo.{steps_in_one_go}
-use Rattle.meaning_laws.proofs.steps_in_one_go.Goals as goal
-
-pub returns : goal.returns
-returns c = steps_in_one_go

@@ -1,5 +1,0 @@
-pub mod OneField
-pub mod TwoWriters
-pub mod Copying
-pub mod Overwriting
-pub mod Refused

@@ -1,5 +1,0 @@
-use Rattle.meaning_rows.proofs.TwoWriters.{not_safe}
-use Rattle.meaning_rows.proofs.two_writers_are_not_safe.Goals as goal
-
-pub returns : goal.returns
-returns c = not_safe

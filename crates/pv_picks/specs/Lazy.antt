@@ -1,0 +1,3 @@
+-- Lazy runs: what a run shows of its evidence, and which facts it tests.
+pub mod Patterns
+pub mod Runs

@@ -1,0 +1,3 @@
+-- Plain trees of programs, in which names, types and operators are settled.
+pub mod Core
+pub mod Members

@@ -1,6 +1,0 @@
-use Rattle.std.proofs.Common.{◌≡◌, drop}
-use Rattle.pv_rules.specs.Lookup as rules
-use Rattle.pv_scopes.proofs.lookup.field_type_named.Given as goal
-
-abbrev pub invariant-loop-member : goal.invariant-loop-member
-invariant-loop-member l = rules.field_named (drop l.member-index l.members) l.name ≡ rules.field_named l.members l.name

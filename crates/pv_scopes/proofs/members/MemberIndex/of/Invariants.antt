@@ -1,6 +1,0 @@
-use Rattle.std.proofs.Common.{drop}
-use Rattle.pv_scopes.specs.Index.{IsIndexOf}
-use Rattle.pv_scopes.proofs.members.MemberIndex.of.Given as goal
-
-abbrev pub invariant-loop-at : goal.invariant-loop-at
-invariant-loop-at l = IsIndexOf l.index (drop l.at l.members)

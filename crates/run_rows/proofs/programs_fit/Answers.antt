@@ -1,5 +1,0 @@
-use Rattle.run_rows.proofs.Fitting.{writers_fit, fill_fits, copying_fits, twice_fits, grow_fits}
-use Rattle.run_rows.proofs.programs_fit.Goals as goal
-
-pub returns : goal.returns
-returns c = (writers_fit, fill_fits, copying_fits, twice_fits, grow_fits)

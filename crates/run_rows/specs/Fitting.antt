@@ -1,8 +1,0 @@
--- Worked programs that are well typed as plain trees.
-use Rattle.typed_programs.specs.Blocks.{ProgramFits}
-use Rattle.worked_programs.specs.CoreObjects.{writers, grow}
-use Rattle.worked_programs.specs.CoreArrays.{fill}
-use Rattle.worked_programs.specs.CoreThreads.{copying, twice}
-
-abbrev pub ProgramsFit : Type 0
-ProgramsFit = ProgramFits writers × ProgramFits fill × ProgramFits copying × ProgramFits twice × ProgramFits grow

@@ -1,5 +1,0 @@
-use Rattle.sharing_laws.proofs.Inhaled.{inhales_again}
-use Rattle.sharing_laws.proofs.a_formula_is_inhaled_alike_from_states_that_are_alike.Goals as goal
-
-pub returns : goal.returns
-returns c = inhales_again

@@ -1,5 +1,0 @@
-use Rattle.sharing_laws.proofs.Programs.{program_elements}
-use Rattle.sharing_laws.proofs.items_speak_of_numbers_and_truth_values.Goals as goal
-
-pub returns : goal.returns
-returns c = program_elements

@@ -1,5 +1,0 @@
-use Rattle.sharing_laws.proofs.Exhaled.{exhales_alike}
-use Rattle.sharing_laws.proofs.what_is_made_alike_is_exhaled_alike.Goals as goal
-
-pub returns : goal.returns
-returns c = exhales_alike

@@ -1,0 +1,5 @@
+pub mod Soundness
+pub mod OpeningLaws
+pub mod Sharing
+pub mod WorldLaws
+pub mod Waiting

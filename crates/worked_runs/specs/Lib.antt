@@ -1,0 +1,12 @@
+pub mod Building
+pub mod Schedules
+pub mod Faults
+pub mod Swapping
+pub mod Overwriting
+pub mod Handing
+pub mod Distant
+pub mod Barriers
+pub mod Formulas
+pub mod Refused
+pub mod Fitting
+pub mod Runs

@@ -1,0 +1,47 @@
+-- No evidence makes the judge fail on any unit of the counter, nor of the program that folds a predicate; on a writer some does.
+use Rattle.std.proofs.Common.{◌≡◌, pos, [], ◌∷◌, refl, sym, subst}
+use Rattle.std.specs.List.{AllByRecursion}
+use Rattle.pv_ast.specs.declared.Program.{Program}
+use Rattle.pv_picks.specs.declared.check.Check.TheVariants as check
+use Rattle.pv_picks.specs.declared.evidence.Pick.TheVariants.{Number, Turn}
+use Rattle.pv_picks.specs.Plain.Core as core
+use Rattle.pv_picks.specs.Verdicts.Grounds.{NeverFails}
+use Rattle.pv_picks.specs.Elaborating.Programs.{core_of}
+use Rattle.pv_picks.specs.Verdicts.Theorems.{IsVerified}
+use Rattle.pv_picks.specs.Verdicts.Units.{units_of}
+use Rattle.worked_programs.specs.Objects as trees
+use Rattle.worked_programs.specs.CoreObjects as cores
+use Rattle.worked_programs.specs.Nodes.{at}
+use Rattle.worked_trees.proofs.Objects.{objects_become}
+use Rattle.worked_safety.specs.Verified.{CounterIsVerified, ChainIsVerified, CounterPasses, WritersAreNotVerified}
+use Rattle.machine_loops.proofs.Programs.{passed}
+use Rattle.soundness.proofs.Runs.{safe}
+use Rattle.worked_safety.proofs.Formed.{well_formed}
+use Rattle.worked_safety.proofs.Counter.{increments}
+use Rattle.worked_safety.proofs.Chain.{body_safe, up_safe}
+
+-- what a program becomes was worked out
+verified_as : (p : Program) (c : core.Program) → core_of p ≡ c → AllByRecursion (NeverFails c) (units_of p) → IsVerified p
+verified_as p c is all = subst (λ c. AllByRecursion (NeverFails c) (units_of p)) (sym is) all
+
+pub counter_verified : CounterIsVerified
+counter_verified =
+    verified_as trees.counter cores.counter objects_become.0
+    ((λ evidence check span. increments _ evidence.table evidence.picks check span), tt)
+
+pub chain_verified : ChainIsVerified
+chain_verified =
+    verified_as trees.chain cores.chain objects_become.7 (
+      (λ evidence check span. body_safe _ evidence.table evidence.picks check span),
+      ((λ evidence check span. up_safe _ evidence.table evidence.picks check span), tt),
+    )
+
+pub writers_refused : WritersAreNotVerified
+writers_refused verified =
+    let all : AllByRecursion (NeverFails cores.writers) (units_of trees.writers) =
+    subst (λ c. AllByRecursion (NeverFails c) (units_of trees.writers)) objects_become.3 verified in
+    all.0 (record { picks = Number (pos 1) ∷ Turn 0 ∷ []; table = [] }) check.ReadPermission (at 37 38) refl
+
+-- so soundness speaks of it
+pub counter_passes : CounterPasses
+counter_passes = passed safe trees.counter well_formed counter_verified

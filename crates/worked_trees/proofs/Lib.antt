@@ -1,0 +1,5 @@
+mod Nodes
+mod Rules
+pub mod Objects
+mod Arrays
+mod Threads
