@@ -3,7 +3,7 @@ use Rattle.std.proofs.Common.{◌≡◌, ◌+◌, ◌≤◌, ◌<◌, ℕ, zero,
 use Rattle.std.specs.Prelude.{nat_eq}
 use Rattle.std.proofs.lemmas.Option.{none-some, same_Some}
 use Rattle.pv_base.specs.declared.Name.{Name}
-use Rattle.pv_values.specs.Heaps.{same_name}
+use Rattle.pv_base.specs.Names.{same_name}
 use Rattle.pv_ast.specs.declared.Token.TheVariants as token
 use Rattle.pv_picks.specs.Formulas.Heaps.{Heap, at_number}
 use Rattle.pv_picks.specs.Judge.States.{Resource, OfToken}

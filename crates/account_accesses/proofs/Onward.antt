@@ -6,7 +6,7 @@ use Rattle.pv_base.specs.declared.Name.{Name}
 use Rattle.pv_base.specs.declared.Span.{Span}
 use Rattle.pv_values.specs.declared.value.Value.{Value}
 use Rattle.pv_values.specs.declared.value.Location.{Location}
-use Rattle.pv_values.specs.Heaps.{same_name}
+use Rattle.pv_base.specs.Names.{same_name}
 use Rattle.pv_picks.specs.Plain.Core.{Barrier, Message, Program}
 use Rattle.pv_picks.specs.Formulas.Heaps.{Heap}
 use Rattle.pv_picks.specs.Plain.Members.{run_of}

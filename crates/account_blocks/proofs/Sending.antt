@@ -4,7 +4,7 @@ use Rattle.std.specs.Prelude.{nat_eq, int_lt, ◌-ℤ◌, ◌+ℤ◌, negsuc}
 use Rattle.std.proofs.lemmas.Int.{ints}
 use Rattle.pv_base.specs.declared.Name.{Name}
 use Rattle.pv_base.specs.declared.Span.{Span}
-use Rattle.pv_values.specs.Heaps.{same_name}
+use Rattle.pv_base.specs.Names.{same_name}
 use Rattle.pv_fraction.specs.Amounts.{whole}
 use Rattle.pv_picks.specs.declared.check.Check.TheVariants as check
 use Rattle.pv_picks.specs.Plain.Core.{Message, Program, Team}

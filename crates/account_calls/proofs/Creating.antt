@@ -12,7 +12,8 @@ use Rattle.pv_values.specs.declared.value.Value.{Value}
 use Rattle.pv_values.specs.declared.value.Value.TheVariants as value
 use Rattle.pv_values.specs.declared.value.Location.{Location}
 use Rattle.pv_values.specs.declared.value.Location.TheVariants as location
-use Rattle.pv_values.specs.Heaps.{Fields, field_value, same_name}
+use Rattle.pv_values.specs.Heaps.{Fields, field_value}
+use Rattle.pv_base.specs.Names.{same_name}
 use Rattle.pv_values.specs.Typing.{Kind}
 use Rattle.pv_fraction.specs.Amounts.{whole}
 use Rattle.pv_picks.specs.Plain.Core.{Parameter, Program}

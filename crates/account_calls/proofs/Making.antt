@@ -13,7 +13,8 @@ use Rattle.pv_values.specs.Typing.{Kind, is_number, is_truth}
 use Rattle.pv_values.specs.Changes.{element_of_all}
 use Rattle.pv_fraction.specs.Amounts.{whole}
 use Rattle.pv_picks.specs.declared.check.Check.TheVariants as check
-use Rattle.pv_picks.specs.Formulas.Values.{array_of, default_of, within, same_type}
+use Rattle.pv_picks.specs.Formulas.Values.{array_of, default_of, within}
+use Rattle.pv_ast.specs.Rules.Typing.{same_type}
 use Rattle.pv_picks.specs.Formulas.Heaps.{Heap, with_array}
 use Rattle.pv_picks.specs.Judge.Runs.{Judged, Maps, blocked, content}
 use Rattle.pv_picks.specs.Judge.States.{State, Resource, InField, InElement, OfToken, OfLock, Holding, amount_held, amount_of, holding, cell_among, is_among, with_met, with_elements, with_length, plain_cell}

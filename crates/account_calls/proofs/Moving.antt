@@ -8,7 +8,7 @@ use Rattle.pv_ast.specs.declared.PvType.{PvType}
 use Rattle.pv_ast.specs.declared.PvType.TheVariants.{Int}
 use Rattle.pv_ast.specs.declared.Token.TheVariants as token
 use Rattle.pv_fraction.specs.Amounts.{whole}
-use Rattle.pv_values.specs.Heaps.{same_name}
+use Rattle.pv_base.specs.Names.{same_name}
 use Rattle.pv_picks.specs.Plain.Core.{Formula, Parameter, Method, Barrier, Message, Program}
 use Rattle.pv_picks.specs.Plain.Members.{run_of, invariant_of}
 use Rattle.pv_picks.specs.Formulas.Values.{at_position}

@@ -11,7 +11,7 @@ use Rattle.pv_ast.specs.declared.Token.TheVariants as token
 use Rattle.pv_values.specs.declared.value.Value.{Value}
 use Rattle.pv_values.specs.declared.value.Value.TheVariants as value
 use Rattle.pv_values.specs.declared.value.Location.TheVariants as location
-use Rattle.pv_values.specs.Heaps.{same_name}
+use Rattle.pv_base.specs.Names.{same_name}
 use Rattle.pv_fraction.specs.Amounts.{whole}
 use Rattle.pv_picks.specs.declared.check.Check.TheVariants as check
 use Rattle.pv_picks.specs.Plain.Core.{Expression, Fact, FieldPermission, ElementPermission, Holds, Program}

@@ -9,7 +9,8 @@ use Rattle.pv_picks.specs.declared.evidence.Pick.{Pick}
 use Rattle.pv_picks.specs.declared.evidence.Pick.TheVariants.{Number, Steps}
 use Rattle.pv_picks.specs.declared.evidence.StepPair.{StepPair}
 use Rattle.pv_picks.specs.Plain.Core.{Operation, Plus, Minus, Times}
-use Rattle.pv_picks.specs.Formulas.Values.{arithmetic, same_type}
+use Rattle.pv_picks.specs.Formulas.Values.{arithmetic}
+use Rattle.pv_ast.specs.Rules.Typing.{same_type}
 use Rattle.pv_picks.specs.Formulas.Heaps.{Heap}
 use Rattle.pv_picks.specs.Judge.States.{State}
 use Rattle.pv_picks.specs.Judge.Settings.{Next, known_or_picked, look_at_length}

@@ -7,7 +7,7 @@ use Rattle.pv_values.specs.declared.value.Value.{Value}
 use Rattle.pv_values.specs.declared.value.Value.TheVariants as value
 use Rattle.pv_values.specs.declared.value.Location.{Location}
 use Rattle.pv_values.specs.declared.value.Location.TheVariants as location
-use Rattle.pv_values.specs.Heaps.{same_name}
+use Rattle.pv_base.specs.Names.{same_name}
 use Rattle.pv_picks.specs.Formulas.Values.{within}
 use Rattle.pv_picks.specs.Formulas.Heaps.{Heap}
 use Rattle.pv_picks.specs.Judge.States.{InField, InElement, OfToken, OfLock}

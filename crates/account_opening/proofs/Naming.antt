@@ -5,7 +5,7 @@ use Rattle.std.specs.Prelude.{map}
 use Rattle.std.specs.List.{AllByRecursion, list_any}
 use Rattle.std.proofs.lemmas.Bool.Decides.{nat_tests}
 use Rattle.pv_base.specs.declared.Name.{Name}
-use Rattle.pv_values.specs.Heaps.{same_name}
+use Rattle.pv_base.specs.Names.{same_name}
 use Rattle.pv_picks.specs.Plain.Core.{Message, Statement, Assign, If, While, Members, Meet, Act, Fold, Unfold, Assert, Send, Receive, Return, Block, Stop, Then}
 use Rattle.pv_picks.specs.Machine.Starts.{true_formula}
 use Rattle.core_trees.specs.Messages.{sent_by, sent_in_block, received_by, received_in_block, IsAmong, Matches}

@@ -4,7 +4,7 @@ use Rattle.std.proofs.Common.{◌≡◌, ℕ, suc, ◌+◌, ◌-◌, ◌≤◌, 
 use Rattle.std.specs.Prelude.{nat_eq, ◌+ℤ◌, ◌-ℤ◌}
 use Rattle.pv_base.specs.declared.Name.{Name}
 use Rattle.pv_base.specs.declared.Span.{Span}
-use Rattle.pv_values.specs.Heaps.{same_name}
+use Rattle.pv_base.specs.Names.{same_name}
 use Rattle.pv_picks.specs.Plain.Core.{Barrier, Message, Program, Team, Block}
 use Rattle.pv_picks.specs.Formulas.Values.{within, width}
 use Rattle.pv_picks.specs.Formulas.Heaps.{at_number}

@@ -6,7 +6,7 @@ use Rattle.std.specs.List.{list_any, AllByRecursion}
 use Rattle.pv_base.specs.declared.Name.{Name}
 use Rattle.pv_base.specs.declared.Span.{Span}
 use Rattle.pv_ast.specs.declared.Program.{Program}
-use Rattle.pv_ast.specs.Rules.Lookup.{same_name}
+use Rattle.pv_base.specs.Names.{same_name}
 use Rattle.pv_ast.specs.Rules.Programs.{KeepsRules}
 use Rattle.pv_values.specs.declared.value.Value.{Value}
 use Rattle.pv_values.specs.declared.value.Value.TheVariants as value

@@ -22,7 +22,7 @@ use Rattle.pv_ast.specs.declared.fault.Rule.TheVariants as rule
 use Rattle.pv_ast.specs.declared.scope.Declaration.TheVariants.{Local}
 use Rattle.pv_ast.specs.declared.standing.StatementContext.{StatementContext}
 use Rattle.pv_ast.specs.declared.standing.Surround.TheVariants as surround
-use Rattle.pv_ast.specs.Rules.Lookup.{same_name}
+use Rattle.pv_base.specs.Names.{same_name}
 use Rattle.pv_ast.specs.Rules.Scoping.{Visible, nothing_visible, is_visible, is_inner_local, variable_named}
 use Rattle.pv_ast.specs.Rules.Expressions.{Environment}
 use Rattle.pv_ast.specs.Rules.Statements.{CheckedStatement, faults_of_statements, faults_of_body, in_branch, in_while, among_members, is_nothing, is_assignable}

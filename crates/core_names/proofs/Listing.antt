@@ -13,7 +13,7 @@ use Rattle.pv_ast.specs.declared.ExprKind.TheVariants as kind
 use Rattle.pv_ast.specs.declared.Each.{Each}
 use Rattle.pv_ast.specs.declared.scope.Declared.{Declared}
 use Rattle.pv_ast.specs.declared.standing.Typing.{Typing}
-use Rattle.pv_ast.specs.Rules.Lookup.{same_name}
+use Rattle.pv_base.specs.Names.{same_name}
 use Rattle.pv_ast.specs.Rules.Scoping.{Visible, variable_named, is_inner_local}
 use Rattle.pv_ast.specs.Rules.Expressions.{Environment, CheckedExpression, checked_expression, typing_in, seen_of_name, is_array_length}
 use Rattle.pv_ast.specs.Rules.Statements.{is_assignable, is_inner_local_kind}

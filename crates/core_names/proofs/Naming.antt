@@ -11,7 +11,7 @@ use Rattle.pv_ast.specs.declared.Class.{Class}
 use Rattle.pv_ast.specs.declared.Program.{Program}
 use Rattle.pv_ast.specs.declared.fault.Rule.TheVariants as rule
 use Rattle.pv_ast.specs.declared.fault.Rule.{Rule}
-use Rattle.pv_ast.specs.Rules.Lookup.{same_name}
+use Rattle.pv_base.specs.Names.{same_name}
 use Rattle.pv_ast.specs.Rules.Expressions.{Environment}
 use Rattle.pv_ast.specs.Rules.Statements.{has_label, repeated_behind}
 use Rattle.pv_ast.specs.Rules.Programs as rules

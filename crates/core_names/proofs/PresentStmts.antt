@@ -15,7 +15,7 @@ use Rattle.pv_ast.specs.declared.Class.{Class}
 use Rattle.pv_ast.specs.declared.Program.{Program}
 use Rattle.pv_ast.specs.declared.Stmt.{Stmt}
 use Rattle.pv_ast.specs.declared.StmtKind.{StmtKind-F}
-use Rattle.pv_ast.specs.Rules.Lookup.{same_name}
+use Rattle.pv_base.specs.Names.{same_name}
 use Rattle.pv_ast.specs.Rules.Scoping.{Visible}
 use Rattle.pv_ast.specs.Rules.Expressions.{Environment}
 use Rattle.pv_ast.specs.Rules.Programs.{in_class}

@@ -14,7 +14,7 @@ use Rattle.pv_ast.specs.declared.fault.Rule.TheVariants as rule
 use Rattle.pv_ast.specs.declared.scope.Declaration.{Declaration}
 use Rattle.pv_ast.specs.declared.scope.Declaration.TheVariants.{Parameter, LoopVariable, Block}
 use Rattle.pv_ast.specs.declared.scope.Declared.{Declared}
-use Rattle.pv_ast.specs.Rules.Lookup.{same_name}
+use Rattle.pv_base.specs.Names.{same_name}
 use Rattle.pv_ast.specs.Rules.Scoping.{Visible, nothing_visible, declared_as, declare_variable, entered, is_visible, is_block, is_local, is_local_variable, is_inner_local, as_variable, variable_named}
 use Rattle.pv_ast.specs.Rules.Expressions.{Environment}
 use Rattle.pv_ast.specs.Rules.Statements.{shadows, with_block}

@@ -4,7 +4,7 @@
 use Rattle.std.specs.Prelude.{◌≡◌, Bool, true, false, ◌||◌, List, ◌∷◌}
 use Rattle.std.specs.List.{AllByRecursion}
 use Rattle.pv_base.specs.declared.Name.{Name}
-use Rattle.pv_ast.specs.Rules.Lookup.{same_name}
+use Rattle.pv_base.specs.Names.{same_name}
 use Rattle.pv_picks.specs.Plain.Core as core
 use Rattle.pv_picks.specs.Plain.Core.{Target, Parameter, Statement, Block, Method, Member, Class, Program}
 use Rattle.core_trees.specs.Resolved.{InScope, names_of, behind}

@@ -1,7 +1,7 @@
 -- What is fixed in a frame: the names of which its contract speaks keep the values that it began with.
 use Rattle.std.specs.Prelude.{◌≡◌, false, Option, Some, None, List, [], ◌∷◌}
 use Rattle.pv_base.specs.declared.Name.{Name}
-use Rattle.pv_ast.specs.Rules.Lookup.{same_name}
+use Rattle.pv_base.specs.Names.{same_name}
 use Rattle.pv_picks.specs.Plain.Core.{Team, Block, Program}
 use Rattle.pv_picks.specs.Formulas.Values.{Variables, at_position}
 use Rattle.pv_picks.specs.Machine.Tasks.{Step, AtHead, AtOpen, AtArrive, AtLeave, AtSend, AtReceive, Task, Branch, Turn, Put, Run, Stand}

@@ -15,7 +15,8 @@ use Rattle.pv_picks.specs.declared.evidence.Pick.TheVariants.{Number, Turn, Step
 use Rattle.pv_picks.specs.declared.evidence.Entry.{Entry}
 use Rattle.pv_picks.specs.Plain.Core.{Expression, Manner, Operation}
 use Rattle.pv_picks.specs.Plain.Core as core
-use Rattle.pv_picks.specs.Formulas.Values.{same_type, number_in, truth_in, reference_in}
+use Rattle.pv_picks.specs.Formulas.Values.{number_in, truth_in, reference_in}
+use Rattle.pv_ast.specs.Rules.Typing.{same_type}
 use Rattle.pv_picks.specs.Formulas.Evaluation.{Scene, evaluate, evaluate_all}
 use Rattle.pv_picks.specs.Judge.States.{State, Resource, InField, InElement, Cell, Cells, with_length}
 use Rattle.pv_picks.specs.Judge.Settings.{Next, known_or_picked, look_at_length, or_missing, operate, formula_reader}

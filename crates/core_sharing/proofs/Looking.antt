@@ -13,7 +13,8 @@ use Rattle.pv_picks.specs.declared.evidence.Pick.TheVariants.{Number, Turn, Step
 use Rattle.pv_picks.specs.declared.evidence.Entry.{Entry}
 use Rattle.pv_picks.specs.Plain.Core.{Expression, Manner, Operation}
 use Rattle.pv_picks.specs.Plain.Core as core
-use Rattle.pv_picks.specs.Formulas.Values.{number_in, truth_in, reference_in, arithmetic, same_type}
+use Rattle.pv_picks.specs.Formulas.Values.{number_in, truth_in, reference_in, arithmetic}
+use Rattle.pv_ast.specs.Rules.Typing.{same_type}
 use Rattle.pv_picks.specs.Formulas.Evaluation.{Scene, Reader, evaluate}
 use Rattle.pv_picks.specs.Judge.States.{State, Resource, InField, InElement, Cell, Cells}
 use Rattle.pv_picks.specs.Judge.Settings.{Next, known_or_picked, look_at_length, or_missing, operate}

@@ -10,7 +10,8 @@ use Rattle.pv_values.specs.Heaps.{same_number}
 use Rattle.pv_picks.specs.declared.evidence.Entry.{Entry}
 use Rattle.pv_picks.specs.Plain.Core.{Cut}
 use Rattle.pv_picks.specs.Plain.Core as core
-use Rattle.pv_picks.specs.Formulas.Values.{truth_in, same_type, within, is_empty, or_zero, width}
+use Rattle.pv_picks.specs.Formulas.Values.{truth_in, within, is_empty, or_zero, width}
+use Rattle.pv_ast.specs.Rules.Typing.{same_type}
 use Rattle.pv_picks.specs.Formulas.Meeting.{passes}
 use Rattle.pv_picks.specs.Judge.States.{State, Holding, Resource, InField, InElement, OfToken, OfLock, same_resource, amount_of, cell_held, holding, is_among, with_amount, without_range}
 use Rattle.pv_picks.specs.Judge.Settings.{Next}

@@ -20,7 +20,7 @@ use Rattle.pv_ast.specs.declared.standing.Need.{Need}
 use Rattle.pv_ast.specs.declared.standing.Need.TheVariants.{Anything, Exactly, AnObject, AnArray}
 use Rattle.pv_ast.specs.declared.standing.Typing.{Typing}
 use Rattle.pv_ast.specs.declared.standing.Typing.TheVariants.{Typed}
-use Rattle.pv_ast.specs.Rules.Lookup.{same_name}
+use Rattle.pv_base.specs.Names.{same_name}
 use Rattle.pv_ast.specs.Rules.Scoping.{Visible, variable_named}
 use Rattle.pv_ast.specs.Rules.Typing as typing
 use Rattle.pv_ast.specs.Rules.Expressions.{Environment, typing_in, is_array_length, is_length, need_of_target, with_bound, under_quantifier}

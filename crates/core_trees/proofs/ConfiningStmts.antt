@@ -22,7 +22,7 @@ use Rattle.pv_ast.specs.declared.standing.Need.TheVariants.{Exactly}
 use Rattle.pv_ast.specs.declared.standing.StatementContext.{StatementContext}
 use Rattle.pv_ast.specs.declared.standing.Surround.TheVariants as surround
 use Rattle.pv_ast.specs.Rules.Faults.{Faults}
-use Rattle.pv_ast.specs.Rules.Lookup.{same_name}
+use Rattle.pv_base.specs.Names.{same_name}
 use Rattle.pv_ast.specs.Rules.Scoping.{Visible, entered, is_visible, is_block_around}
 use Rattle.pv_ast.specs.Rules.Expressions.{Environment, CheckedExpression}
 use Rattle.pv_ast.specs.Rules.Items.{Shape, clause}

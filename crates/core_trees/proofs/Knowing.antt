@@ -11,7 +11,7 @@ use Rattle.pv_ast.specs.declared.scope.Declaration.{Declaration}
 use Rattle.pv_ast.specs.declared.scope.Declaration.TheVariants.{Parameter, Local, Block}
 use Rattle.pv_ast.specs.declared.scope.Declared.{Declared}
 use Rattle.pv_ast.specs.declared.standing.Context.{Context}
-use Rattle.pv_ast.specs.Rules.Lookup.{same_name}
+use Rattle.pv_base.specs.Names.{same_name}
 use Rattle.pv_ast.specs.Rules.Scoping.{Visible, nothing_visible, declared_as, declare_variable, is_visible, variable_named, as_variable, is_inner_local, is_local_variable, entered}
 use Rattle.pv_ast.specs.Rules.Statements.{with_block}
 use Rattle.pv_ast.specs.Rules.Programs.{with_param, with_params}

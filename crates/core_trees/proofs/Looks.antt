@@ -8,7 +8,7 @@ use Rattle.pv_base.specs.declared.Name.{Name}
 use Rattle.pv_base.specs.declared.Span.{Span}
 use Rattle.pv_ast.specs.declared.Operator.TheVariants as op
 use Rattle.pv_ast.specs.declared.PvType.{PvType}
-use Rattle.pv_ast.specs.Rules.Lookup.{same_name}
+use Rattle.pv_base.specs.Names.{same_name}
 use Rattle.pv_picks.specs.Plain.Core.{Expression}
 use Rattle.pv_picks.specs.Plain.Core as core
 use Rattle.pv_picks.specs.Judge.Repetitions.{Look, AtTerm, in_state, looks_in, look_at_element, shift_in, shift_if, term_beside}

@@ -15,7 +15,7 @@ use Rattle.pv_ast.specs.declared.StmtKind.{StmtKind-F}
 use Rattle.pv_ast.specs.declared.fault.Rule.TheVariants as rule
 use Rattle.pv_ast.specs.declared.standing.StatementContext.{StatementContext}
 use Rattle.pv_ast.specs.declared.standing.Surround.TheVariants as surround
-use Rattle.pv_ast.specs.Rules.Lookup.{same_name}
+use Rattle.pv_base.specs.Names.{same_name}
 use Rattle.pv_ast.specs.Rules.Scoping.{Visible, nothing_visible}
 use Rattle.pv_ast.specs.Rules.Expressions.{Environment}
 use Rattle.pv_ast.specs.Rules.Statements.{CheckedStatement, Messages, no_messages, messages_of_statements, faults_of_messages, faults_of_statements, faults_of_body, parts_of_block, has_label, unknown_labels, in_branch, in_while, among_members, is_nothing}

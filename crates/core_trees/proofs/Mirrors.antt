@@ -16,7 +16,8 @@ use Rattle.pv_ast.specs.declared.Member.TheVariants as member
 use Rattle.pv_ast.specs.declared.Class.{Class}
 use Rattle.pv_ast.specs.declared.Program.{Program}
 use Rattle.pv_ast.specs.Rules.Lookup as rules
-use Rattle.pv_ast.specs.Rules.Lookup.{same_name, named}
+use Rattle.pv_ast.specs.Rules.Lookup.{named}
+use Rattle.pv_base.specs.Names.{same_name}
 use Rattle.pv_ast.specs.Rules.Expressions as parts
 use Rattle.pv_ast.specs.Rules.Expressions.{Environment, type_of_field, type_of_param}
 use Rattle.pv_ast.specs.Rules.Programs.{in_class}

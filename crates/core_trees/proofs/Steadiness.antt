@@ -9,7 +9,7 @@ use Rattle.pv_base.specs.declared.Span.{Span}
 use Rattle.pv_ast.specs.declared.Operator.{Operator}
 use Rattle.pv_ast.specs.declared.Operator.TheVariants as op
 use Rattle.pv_ast.specs.Rules.Items.{Use, unused, shifted, elsewhere, both_uses}
-use Rattle.pv_ast.specs.Rules.Lookup.{same_name}
+use Rattle.pv_base.specs.Names.{same_name}
 use Rattle.pv_picks.specs.Plain.Core.{Expression}
 use Rattle.pv_picks.specs.Plain.Core as core
 use Rattle.pv_ast.specs.declared.PvType.{PvType}

@@ -17,7 +17,8 @@ use Rattle.pv_ast.specs.declared.scope.Declaration.TheVariants.{Local, LoopVaria
 use Rattle.pv_ast.specs.declared.standing.Need.TheVariants.{Anything, Exactly}
 use Rattle.pv_ast.specs.declared.standing.StatementContext.{StatementContext}
 use Rattle.pv_ast.specs.declared.standing.Surround.TheVariants as surround
-use Rattle.pv_ast.specs.Rules.Lookup.{same_name, is_declared_type}
+use Rattle.pv_ast.specs.Rules.Lookup.{is_declared_type}
+use Rattle.pv_base.specs.Names.{same_name}
 use Rattle.pv_ast.specs.Rules.Scoping.{Visible, entered, is_visible}
 use Rattle.pv_ast.specs.Rules.Expressions as rules
 use Rattle.pv_ast.specs.Rules.Expressions.{Environment, checked_expression, typing_in}

@@ -23,7 +23,8 @@ use Rattle.pv_ast.specs.declared.scope.Declaration.TheVariants.{Parameter}
 use Rattle.pv_ast.specs.declared.standing.Need.TheVariants.{Exactly}
 use Rattle.pv_ast.specs.declared.standing.StatementContext.{StatementContext}
 use Rattle.pv_ast.specs.declared.PvType.TheVariants.{Truth}
-use Rattle.pv_ast.specs.Rules.Lookup.{same_name, class_named, field_named, is_declared_type}
+use Rattle.pv_ast.specs.Rules.Lookup.{class_named, field_named, is_declared_type}
+use Rattle.pv_base.specs.Names.{same_name}
 use Rattle.pv_ast.specs.Rules.Scoping.{Visible, nothing_visible}
 use Rattle.pv_ast.specs.Rules.Expressions.{Environment, type_of_field, type_of_param}
 use Rattle.pv_ast.specs.Rules.Statements.{CheckedStatement, in_condition, option_type, repeated_behind, has_label, faults_of_body, parts_of_block, is_loop, is_nothing}

@@ -3,7 +3,7 @@ use Rattle.std.specs.Prelude.{◌≡◌, ◌≤◌, false, Option, Some, None, L
 use Rattle.std.specs.List.{list_any, AllByRecursion, Contains}
 use Rattle.pv_base.specs.declared.Name.{Name}
 use Rattle.pv_ast.specs.declared.Program.{Program}
-use Rattle.pv_ast.specs.Rules.Lookup.{same_name}
+use Rattle.pv_base.specs.Names.{same_name}
 use Rattle.pv_picks.specs.declared.unit.PvUnit.{PvUnit}
 use Rattle.pv_picks.specs.Plain.Core as core
 use Rattle.pv_picks.specs.Plain.Core.{Formula, Predicate, Method, Member, Class}

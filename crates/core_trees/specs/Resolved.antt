@@ -5,7 +5,7 @@ use Rattle.std.specs.List.{list_any, AllByRecursion}
 use Rattle.pv_base.specs.declared.Name.{Name}
 use Rattle.pv_ast.specs.declared.Token.{Token}
 use Rattle.pv_ast.specs.declared.Token.TheVariants as token
-use Rattle.pv_ast.specs.Rules.Lookup.{same_name}
+use Rattle.pv_base.specs.Names.{same_name}
 use Rattle.pv_picks.specs.Plain.Core.{Program, Class, Member, Parameter, Method, Contract, Shared, Team, Message, Action, Target, Right, Expression, Cut, Formula, Items, Item, Statement, Block}
 use Rattle.pv_picks.specs.Plain.Core as core
 use Rattle.pv_picks.specs.Plain.Members.{class_named, predicate_named, method_named, run_of, invariant_of}

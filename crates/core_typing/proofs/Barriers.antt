@@ -5,7 +5,7 @@ use Rattle.std.specs.List.{AllByRecursion, list_any}
 use Rattle.pv_base.specs.declared.Name.{Name}
 use Rattle.pv_ast.specs.declared.PvType.{PvType}
 use Rattle.pv_ast.specs.declared.PvType.TheVariants.{Int}
-use Rattle.pv_ast.specs.Rules.Lookup.{same_name}
+use Rattle.pv_base.specs.Names.{same_name}
 use Rattle.pv_picks.specs.Plain.Core as core
 use Rattle.pv_picks.specs.Plain.Core.{Program, Parameter, Shared, Expression, Cut, Formula, Items, Item}
 use Rattle.core_trees.specs.Resolved.{InScope, names_of, Resolved, AllResolved, ResolvedCut, ResolvedFormula, ResolvedItems, ResolvedItem, ResolvedShared}

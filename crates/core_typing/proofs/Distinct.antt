@@ -8,7 +8,7 @@ use Rattle.pv_ast.specs.declared.Class.{Class}
 use Rattle.pv_ast.specs.declared.Program.{Program}
 use Rattle.pv_ast.specs.declared.fault.Rule.TheVariants as rule
 use Rattle.pv_ast.specs.Rules.Lookup as rules
-use Rattle.pv_ast.specs.Rules.Lookup.{same_name}
+use Rattle.pv_base.specs.Names.{same_name}
 use Rattle.pv_ast.specs.Rules.Expressions.{Environment}
 use Rattle.pv_ast.specs.Rules.Programs.{in_class, name_of_member}
 use Rattle.pv_ast.specs.Rules.WellFormed.{IsWellFormed}

@@ -11,7 +11,8 @@ use Rattle.pv_ast.specs.declared.Member.TheVariants as member
 use Rattle.pv_ast.specs.declared.Class.{Class}
 use Rattle.pv_ast.specs.declared.Program.{Program}
 use Rattle.pv_ast.specs.Rules.Lookup as rules
-use Rattle.pv_ast.specs.Rules.Lookup.{same_name, named, class_named}
+use Rattle.pv_ast.specs.Rules.Lookup.{named, class_named}
+use Rattle.pv_base.specs.Names.{same_name}
 use Rattle.pv_ast.specs.Rules.Expressions.{Environment}
 use Rattle.pv_ast.specs.Rules.Programs.{faults_of_class, faults_of_classes, faults_of_members, faults_of_method, faults_of_run}
 use Rattle.pv_ast.specs.Rules.Shapes as shapes

@@ -20,7 +20,7 @@ use Rattle.pv_ast.specs.declared.fault.ShapeFault.{ShapeFault}
 use Rattle.pv_ast.specs.declared.standing.Need.TheVariants.{Exactly}
 use Rattle.pv_ast.specs.declared.standing.StatementContext.{StatementContext}
 use Rattle.pv_ast.specs.Rules.Faults.{Faults, broken_if}
-use Rattle.pv_ast.specs.Rules.Lookup.{same_name}
+use Rattle.pv_base.specs.Names.{same_name}
 use Rattle.pv_ast.specs.Rules.Scoping.{Visible, is_visible}
 use Rattle.pv_ast.specs.Rules.Expressions.{Environment, checked_expression}
 use Rattle.pv_ast.specs.Rules.Shapes as shapes

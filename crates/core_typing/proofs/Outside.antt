@@ -7,7 +7,7 @@ use Rattle.pv_base.specs.declared.Name.{Name}
 use Rattle.pv_base.specs.declared.Span.{Span}
 use Rattle.pv_ast.specs.declared.PvType.{PvType}
 use Rattle.pv_ast.specs.declared.PvType.TheVariants.{Int, Truth}
-use Rattle.pv_ast.specs.Rules.Lookup.{same_name}
+use Rattle.pv_base.specs.Names.{same_name}
 use Rattle.pv_picks.specs.Plain.Core as core
 use Rattle.pv_picks.specs.Plain.Core.{Parameter, Shared, Expression, Cut, Formula, Items, Item}
 use Rattle.pv_picks.specs.Judge.Repetitions.{Look, AtElements, AtElement, AtLength, AtTerm, is_position, shift_in, in_state, look_at_element, term_beside, looks_in, looks_of}

@@ -5,7 +5,7 @@ use Rattle.std.specs.Prelude.{if◌then◌else◌}
 use Rattle.std.specs.List.{AllByRecursion, filter_map, cons_option}
 use Rattle.pv_base.specs.declared.Name.{Name}
 use Rattle.pv_ast.specs.declared.PvType.{PvType}
-use Rattle.pv_values.specs.Heaps.{same_name}
+use Rattle.pv_base.specs.Names.{same_name}
 use Rattle.pv_picks.specs.Plain.Core as core
 use Rattle.pv_picks.specs.Plain.Core.{Program, Class, Member, Parameter, Predicate, Method, Formula}
 use Rattle.pv_picks.specs.Plain.Members.{field_of, fields_of, predicate_of, method_of, has_name, is_run, first_that, class_named, members_of, invariant_in, type_in}

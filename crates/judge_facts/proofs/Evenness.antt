@@ -5,7 +5,8 @@ use Rattle.std.proofs.lemmas.Int.{ints, by_lt_z}
 use Rattle.pv_ast.specs.declared.PvType.{PvType}
 use Rattle.pv_values.specs.declared.value.Value.{Value}
 use Rattle.pv_values.specs.Heaps.{same_number}
-use Rattle.pv_picks.specs.Formulas.Values.{same_type, within}
+use Rattle.pv_picks.specs.Formulas.Values.{within}
+use Rattle.pv_ast.specs.Rules.Typing.{same_type}
 use Rattle.pv_picks.specs.Judge.States.{State, Resource, InField, InElement, OfToken, OfLock, same_resource, Cell, FromSteps, Cells, Holding, holding, amount_held, amount_of, cell_held, no_cell, cells_of, plain_cell, as_element, with_holding, with_range, without_range, with_elements, is_among, cell_among, empty_state}
 use Rattle.pv_picks.specs.Judge.Settings.{Event, AtField, AtToken, AtLock, AtInstance, AtArray, AtArrayLength}
 use Rattle.pv_picks.specs.Judge.Runs.{Maps, content}

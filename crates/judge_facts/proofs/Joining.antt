@@ -4,7 +4,7 @@ use Rattle.std.specs.Prelude.{nat_eq, ◌≤◌}
 use Rattle.std.specs.List.{flat_map, list_any}
 use Rattle.pv_ast.specs.declared.PvType.{PvType}
 use Rattle.pv_ast.specs.declared.PvType.TheVariants as type
-use Rattle.pv_picks.specs.Formulas.Values.{same_type}
+use Rattle.pv_ast.specs.Rules.Typing.{same_type}
 use Rattle.pv_picks.specs.Judge.Settings.{Event, AtArray, Known}
 use Rattle.pv_picks.specs.Lazy.Patterns.{Array, same_array, is_one_of, arrays_in, spread, spread_times, joined_with, ends_on, named_on}
 use Rattle.judge_facts.specs.Finite.{IsOneOf}

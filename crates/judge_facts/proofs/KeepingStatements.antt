@@ -15,7 +15,8 @@ use Rattle.pv_picks.specs.declared.check.Check.{Check}
 use Rattle.pv_picks.specs.declared.check.Check.TheVariants as check
 use Rattle.pv_picks.specs.Plain.Core.{Expression, Formula, Items, Action, Fork, Join', Lock, Unlock, Commit, Target, Nowhere, ToVariable, ToField, ToElement, Right, Value', Call, NewObject, NewArray, Contract, Shared, Team, Message, Parameter, Statement, Assign, If, While, Members, Meet, Act, Fold, Unfold, Assert, Send, Receive, Return, Block, Stop, Then, Predicate, Method, Program}
 use Rattle.pv_picks.specs.Plain.Members.{fields_of, predicate_named, method_named, run_of, invariant_of}
-use Rattle.pv_picks.specs.Formulas.Values.{default_of, truth_in, number_in, reference_in, array_of, same_type}
+use Rattle.pv_picks.specs.Formulas.Values.{default_of, truth_in, number_in, reference_in, array_of}
+use Rattle.pv_ast.specs.Rules.Typing.{same_type}
 use Rattle.pv_picks.specs.Judge.States.{Cells, cells_of, amount_of, State, InField, InElement, OfLock, nothing_held, with_result, plain_cell, with_elements, with_length, Bind, bind_of, scene_of}
 use Rattle.pv_picks.specs.Judge.Settings.{Setting, Next, AtArray, AtArrayLength, unless_null}
 use Rattle.pv_picks.specs.Judge.Rows.{Site, exhale_at, exhale_by, exhale_each, access_reader, compute, compute_all, write_field, write_element, locate, result_of, call, is_known, notice_known, fresh, pick_fresh, add_fields, add_token_if, add_uncommitted, add_tokens, new_object, new_array, right}

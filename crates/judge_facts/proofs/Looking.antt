@@ -7,7 +7,8 @@ use Rattle.pv_values.specs.declared.value.Value.{Value}
 use Rattle.pv_values.specs.declared.value.Value.TheVariants as value
 use Rattle.pv_picks.specs.declared.evidence.Entry.{Entry}
 use Rattle.pv_picks.specs.Plain.Core.{Operation, Manner, Plain, Tabled, Expression, Constant, This, Result, Variable, Field, Element, Length, Not, Compute, Compare, Equal, And, Or, Implies, Old}
-use Rattle.pv_picks.specs.Formulas.Values.{truth_in, reference_in, number_in, same_type, comparison, equality}
+use Rattle.pv_picks.specs.Formulas.Values.{truth_in, reference_in, number_in, comparison, equality}
+use Rattle.pv_ast.specs.Rules.Typing.{same_type}
 use Rattle.pv_picks.specs.Formulas.Evaluation.{Scene, evaluate}
 use Rattle.pv_picks.specs.Judge.States.{State, InField, InElement, Cell, Cells, Bind, cells_of, with_length}
 use Rattle.pv_picks.specs.Judge.Settings.{Setting, Next, AtArray, ArrayPart, ends_of, known_or_picked, look_at_length, or_missing, operate, formula_reader}

@@ -8,7 +8,8 @@ use Rattle.pv_picks.specs.declared.evidence.Pick.{Pick}
 use Rattle.pv_picks.specs.declared.evidence.Pick.TheVariants.{Number, Turn, Steps}
 use Rattle.pv_picks.specs.declared.evidence.Entry.{Entry}
 use Rattle.pv_picks.specs.Plain.Core.{Operation, Expression}
-use Rattle.pv_picks.specs.Formulas.Values.{same_type, number_in, width}
+use Rattle.pv_picks.specs.Formulas.Values.{number_in, width}
+use Rattle.pv_ast.specs.Rules.Typing.{same_type}
 use Rattle.pv_picks.specs.Judge.States.{State, Resource, InField, InElement, OfToken, OfLock, same_resource, Cell, Cells, Written, FromSteps, Bind, Holding, holding, amount_of, cell_held, plain_cell, is_among, cell_among, index_of, cells_of, with_range, with_elements, empty_state}
 use Rattle.pv_picks.specs.Judge.Settings.{Setting, Event, AtField, AtToken, AtLock, AtInstance, AtArray, AtArrayLength, ArrayPart, Known}
 use Rattle.pv_picks.specs.Judge.Repetitions.{Range, Look, AtElements, AtElement, AtLength, AtTerm, shifted, looks_of}

@@ -3,7 +3,7 @@ use Rattle.std.proofs.Common.{◌≡◌, ℤ, pos, Bool, true, false, if◌then�
 use Rattle.pv_base.specs.declared.Name.{Name}
 use Rattle.pv_base.specs.declared.Span.{Span}
 use Rattle.pv_ast.specs.declared.PvType.{PvType}
-use Rattle.pv_values.specs.Heaps.{same_name}
+use Rattle.pv_base.specs.Names.{same_name}
 use Rattle.pv_picks.specs.Plain.Core.{Operation, Expression, Constant, This, Result, Variable, Field, Element, Length, Not, Compute, Plain, Compare, Equal, And, Or, Implies, Old}
 use Rattle.pv_picks.specs.Judge.Repetitions.{in_state, Look, AtElements, AtElement, AtLength, AtTerm, looks_in, look_at_element, shift_in, shift_if, is_position, constant_in, term_beside}
 use Rattle.pv_picks.specs.Judge.Steady.{IsTerm, Steady}

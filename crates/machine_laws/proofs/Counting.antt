@@ -5,7 +5,7 @@ use Rattle.std.proofs.lemmas.Bool.{eqb-true}
 use Rattle.std.specs.List.{filter_map}
 use Rattle.pv_base.specs.declared.Name.{Name}
 use Rattle.pv_ast.specs.declared.PvType.TheVariants.{Int}
-use Rattle.pv_values.specs.Heaps.{same_name}
+use Rattle.pv_base.specs.Names.{same_name}
 use Rattle.pv_picks.specs.Plain.Core.{Method}
 use Rattle.pv_picks.specs.Plain.Members.{first_that, has_name, is_run, members_of, method_of}
 use Rattle.pv_picks.specs.Typing.Blocks.{ends, goes_first, declares, assigns, answers, MethodFits, ProgramFits}

@@ -12,7 +12,8 @@ use Rattle.pv_values.specs.declared.value.Value.TheVariants as value
 use Rattle.pv_values.specs.declared.value.Location.{Location}
 use Rattle.pv_values.specs.declared.value.Location.TheVariants.{Field, Cell}
 use Rattle.pv_values.specs.declared.thing.Thing.{Thing}
-use Rattle.pv_values.specs.Heaps.{Things, Fields, field_value, field_in, element_in, class_in, length_in, same_name, same_number, same_location}
+use Rattle.pv_values.specs.Heaps.{Things, Fields, field_value, field_in, element_in, class_in, length_in, same_number, same_location}
+use Rattle.pv_base.specs.Names.{same_name}
 use Rattle.pv_values.specs.Typing as typing
 use Rattle.pv_values.specs.Typing.{Kind, numbers, truths, objects, int_arrays, truth_arrays, nulls, is_number, is_truth, Refers, IsWellTyped}
 use Rattle.pv_picks.specs.Plain.Core.{Parameter, Program}

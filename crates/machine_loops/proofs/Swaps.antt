@@ -7,7 +7,8 @@ use Rattle.std.proofs.lemmas.Int.{ints}
 use Rattle.pv_base.specs.declared.Name.{Name}
 use Rattle.pv_values.specs.declared.value.Value.{Value}
 use Rattle.pv_values.specs.declared.value.Location.{Location}
-use Rattle.pv_values.specs.Heaps.{same_name, same_number, same_location}
+use Rattle.pv_values.specs.Heaps.{same_number, same_location}
+use Rattle.pv_base.specs.Names.{same_name}
 use Rattle.pv_picks.specs.Formulas.Heaps.{Heap, at_number, written}
 use Rattle.pv_picks.specs.Machine.Tasks.{Step, AtRead, AtSend, Task, Stand}
 use Rattle.pv_picks.specs.Machine.Frames.{Frame, location_on, breadth, settled}

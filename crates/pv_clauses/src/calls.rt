@@ -2,19 +2,15 @@
 ghost use Rattle.std.specs.Prelude.{◌≡◌, ◌≤◌, ◌<◌, ◌+◌, ◌^◌, ℕ, length, drop};
 ghost use Rattle.pv_ast.specs.declared.Contract.{Contract};
 ghost use Rattle.pv_reading.specs.Answers.{ReadsFront, Answers};
-ghost use Rattle.pv_reading.specs.Spelled.{IsLongest};
-ghost use Rattle.pv_exprs.specs.Spelled.{limit};
+ghost use Rattle.pv_reading.specs.Spelled.{IsLongest, most_open};
 ghost use Rattle.pv_clauses.specs.Grammar.{IsContract};
 
 use crate::reading::read_clauses;
 use pv_ast::Contract;
-use pv_reading::{ParseFault, placed, tokens_from};
+use pv_reading::{MOST_OPEN, ParseFault, placed, tokens_from};
 use pv_tokens::Tokens;
 use sqlite_items::Items;
 use std::alloc::Global;
-
-/// How many constructs may be open at once.
-const LIMIT: u32 = 64;
 
 /// The clauses from token `from` on, up to one that begins none, where `depth` constructs are open already, and the number of
 /// that token. `Unexpected` and `TooDeep` come as those of an expression.
@@ -25,14 +21,14 @@ pub fn contract(
     depth: u32,
 ) -> Result<(Contract, u32), ParseFault>
     requires from { from ≤ length tokens.now.items }
-    requires depth { depth ≤ limit }
+    requires depth { depth ≤ most_open }
     requires few { length tokens.now.items < 2 ^ 32 }
-    ensures reads { ReadsFront (IsContract depth) limit tokens.now.end tokens.now.items from result }
+    ensures reads { ReadsFront (IsContract depth) most_open tokens.now.end tokens.now.items from result }
     // What spells a contract, and goes on to none that is longer, is read as that one, unless memory runs out.
-    ensures accepts { (x : Contract) (taken : ℕ) → IsLongest (IsContract depth) limit (drop from tokens.now.items) x taken → Answers result (x, from + taken) }
+    ensures accepts { (x : Contract) (taken : ℕ) → IsLongest (IsContract depth) most_open (drop from tokens.now.items) x taken → Answers result (x, from + taken) }
 {
     let front = tokens_from(tokens, from);
-    match read_clauses(alloc, Items::new(alloc), front, LIMIT - depth) {
+    match read_clauses(alloc, Items::new(alloc), front, MOST_OPEN - depth) {
         Ok((clauses, rest)) => Ok((Contract { clauses }, (tokens.len() - rest.len()) as u32)),
         Err(fault) => Err(placed(front, tokens.end, fault)),
     }

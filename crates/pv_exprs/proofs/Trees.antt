@@ -13,7 +13,8 @@ use Rattle.pv_exprs.specs.declared.part.Part.{Part}
 use Rattle.pv_exprs.specs.Grammar as g
 use Rattle.pv_exprs.specs.Reading.{expr, formula, deeper}
 use Rattle.pv_exprs.specs.Spelled as spelled
-use Rattle.pv_exprs.specs.Spelled.{limit, IsExpressionTree, IsFormulaTree}
+use Rattle.pv_exprs.specs.Spelled.{IsExpressionTree, IsFormulaTree}
+use Rattle.pv_reading.specs.Spelled.{most_open}
 use Rattle.pv_exprs.proofs.Ranks.{above, starts}
 use Rattle.pv_exprs.proofs.Exactness.{readers_known, expr_exact, formula_exact}
 
@@ -22,10 +23,10 @@ abbrev pub as_tree : Parser Part → Parser Expr
 as_tree p = p >>= λ a. give a.tree
 
 abbrev pub expression_reader : ℕ → Parser Expr
-expression_reader depth = as_tree (expr Program (deeper (limit - depth)))
+expression_reader depth = as_tree (expr Program (deeper (most_open - depth)))
 
 abbrev pub formula_reader : ℕ → Parser Expr
-formula_reader depth = as_tree (formula (deeper (limit - depth)))
+formula_reader depth = as_tree (formula (deeper (most_open - depth)))
 
 module _ (depth : ℕ) where
   to_expression : (us : Marked) (e : Expr) (vs : Marked) → Then (g.IsExpr Program depth) (λ a. Is a.tree) us e vs
@@ -44,34 +45,35 @@ module _ (depth : ℕ) where
       → Then (g.IsFormula depth) (λ a. Is a.tree) us e vs
   from_formula us e vs (spelled.formula p) = seq p is
 
-pub expression_exact : (depth : ℕ) → depth ≤ limit
-    → Exact limit starts (above 8) (IsExpressionTree depth) (expression_reader depth)
+pub expression_exact : (depth : ℕ) → depth ≤ most_open
+    → Exact most_open starts (above 8) (IsExpressionTree depth) (expression_reader depth)
 expression_exact depth le = exact_as (to_expression depth) (from_expression depth)
-    (exact_bind (sub_refl (above 8)) (expr_exact limit depth (deeper (limit - depth)) le
-    (readers_known (limit - depth) limit depth (omega arith)) Program) (λ a. exact_give a.tree))
+    (exact_bind (sub_refl (above 8)) (expr_exact most_open depth (deeper (most_open - depth)) le
+    (readers_known (most_open - depth) most_open depth (omega arith)) Program) (λ a. exact_give a.tree))
 
-pub formula_tree_exact : (depth : ℕ) → depth ≤ limit → Exact limit starts (above 9) (IsFormulaTree depth) (formula_reader depth)
+pub formula_tree_exact : (depth : ℕ) → depth ≤ most_open
+    → Exact most_open starts (above 9) (IsFormulaTree depth) (formula_reader depth)
 formula_tree_exact depth le = exact_as (to_formula depth) (from_formula depth)
-    (exact_bind (sub_refl (above 9)) (formula_exact limit depth (deeper (limit - depth)) le
-    (readers_known (limit - depth) limit depth (omega arith))) (λ a. exact_give a.tree))
+    (exact_bind (sub_refl (above 9)) (formula_exact most_open depth (deeper (most_open - depth)) le
+    (readers_known (most_open - depth) most_open depth (omega arith))) (λ a. exact_give a.tree))
 
 fails_as_tree : (p : Parser Part) (ts : Tokens) (f : ReadFault) → Fails f (p ts) → Fails f (as_tree p ts)
 fails_as_tree p ts (fault.Unexpected left) h = ap (onward (λ a. give a.tree)) h
 fails_as_tree p ts (fault.TooDeep left) h = ap (onward (λ a. give a.tree)) h
 fails_as_tree p ts fault.NoMemory h = tt
 
-pub expression_good : (depth : ℕ) (ts us : Tokens) (a : Part) → expr Program (deeper (limit - depth)) ts ≡ Good a us
+pub expression_good : (depth : ℕ) (ts us : Tokens) (a : Part) → expr Program (deeper (most_open - depth)) ts ≡ Good a us
     → expression_reader depth ts ≡ Good a.tree us
 expression_good depth ts us a h = ap (onward (λ a. give a.tree)) h
 
-pub expression_fails : (depth : ℕ) (ts : Tokens) (f : ReadFault) → Fails f (expr Program (deeper (limit - depth)) ts)
+pub expression_fails : (depth : ℕ) (ts : Tokens) (f : ReadFault) → Fails f (expr Program (deeper (most_open - depth)) ts)
     → Fails f (expression_reader depth ts)
-expression_fails depth ts f h = fails_as_tree (expr Program (deeper (limit - depth))) ts f h
+expression_fails depth ts f h = fails_as_tree (expr Program (deeper (most_open - depth))) ts f h
 
-pub formula_good : (depth : ℕ) (ts us : Tokens) (a : Part) → formula (deeper (limit - depth)) ts ≡ Good a us
+pub formula_good : (depth : ℕ) (ts us : Tokens) (a : Part) → formula (deeper (most_open - depth)) ts ≡ Good a us
     → formula_reader depth ts ≡ Good a.tree us
 formula_good depth ts us a h = ap (onward (λ a. give a.tree)) h
 
-pub formula_fails : (depth : ℕ) (ts : Tokens) (f : ReadFault) → Fails f (formula (deeper (limit - depth)) ts)
+pub formula_fails : (depth : ℕ) (ts : Tokens) (f : ReadFault) → Fails f (formula (deeper (most_open - depth)) ts)
     → Fails f (formula_reader depth ts)
-formula_fails depth ts f h = fails_as_tree (formula (deeper (limit - depth))) ts f h
+formula_fails depth ts f h = fails_as_tree (formula (deeper (most_open - depth))) ts f h

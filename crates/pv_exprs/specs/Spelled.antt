@@ -6,10 +6,6 @@ use Rattle.pv_exprs.specs.declared.level.Mode.TheVariants.{Program}
 use Rattle.pv_exprs.specs.declared.part.Part.{Part}
 use Rattle.pv_exprs.specs.Grammar.{IsExpr, IsFormula}
 
--- how many constructs may be open at once
-abbrev pub limit : ℕ
-limit = 64
-
 pub data IsExpressionTree (depth : ℕ) : Marked → Expr → Marked → Type 0 where
   expression : {us vs : Marked} {a : Part} → IsExpr Program depth us a vs → IsExpressionTree depth us a.tree vs
 

@@ -2,18 +2,15 @@
 ghost use Rattle.std.specs.Prelude.{◌≡◌, ◌≤◌, ◌<◌, ◌+◌, ◌^◌, ℕ, length, drop};
 ghost use Rattle.pv_ast.specs.declared.Expr.{Expr};
 ghost use Rattle.pv_reading.specs.Answers.{ReadsFront, Answers};
-ghost use Rattle.pv_reading.specs.Spelled.{IsLongest};
-ghost use Rattle.pv_exprs.specs.Spelled.{IsExpressionTree, IsFormulaTree, limit};
+ghost use Rattle.pv_reading.specs.Spelled.{IsLongest, most_open};
+ghost use Rattle.pv_exprs.specs.Spelled.{IsExpressionTree, IsFormulaTree};
 
 use crate::level::Mode;
 use crate::reading::{read_expression, read_formula};
 use pv_ast::Expr;
-use pv_reading::{ParseFault, placed, tokens_from};
+use pv_reading::{MOST_OPEN, ParseFault, placed, tokens_from};
 use pv_tokens::Tokens;
 use std::alloc::Global;
-
-/// How many constructs may be open at once.
-const LIMIT: u32 = 64;
 
 /// The expression that begins with token `from`, where `depth` constructs are open already, and the number of the token behind
 /// it. It takes the most tokens that are the front of an expression. `Unexpected` comes exactly where they spell none, and names
@@ -26,14 +23,14 @@ pub fn expression(
     depth: u32,
 ) -> Result<(Expr, u32), ParseFault>
     requires from { from ≤ length tokens.now.items }
-    requires depth { depth ≤ limit }
+    requires depth { depth ≤ most_open }
     requires few { length tokens.now.items < 2 ^ 32 }
-    ensures reads { ReadsFront (IsExpressionTree depth) limit tokens.now.end tokens.now.items from result }
+    ensures reads { ReadsFront (IsExpressionTree depth) most_open tokens.now.end tokens.now.items from result }
     // What spells an expression, and goes on to none that is longer, is read as that one, unless memory runs out.
-    ensures accepts { (e : Expr) (taken : ℕ) → IsLongest (IsExpressionTree depth) limit (drop from tokens.now.items) e taken → Answers result (e, from + taken) }
+    ensures accepts { (e : Expr) (taken : ℕ) → IsLongest (IsExpressionTree depth) most_open (drop from tokens.now.items) e taken → Answers result (e, from + taken) }
 {
     let front = tokens_from(tokens, from);
-    match read_expression(alloc, Mode::Program, front, LIMIT - depth) {
+    match read_expression(alloc, Mode::Program, front, MOST_OPEN - depth) {
         Ok((part, rest)) => Ok((part.into_tree(), (tokens.len() - rest.len()) as u32)),
         Err(fault) => Err(placed(front, tokens.end, fault)),
     }
@@ -47,13 +44,13 @@ pub fn formula(
     depth: u32,
 ) -> Result<(Expr, u32), ParseFault>
     requires from { from ≤ length tokens.now.items }
-    requires depth { depth ≤ limit }
+    requires depth { depth ≤ most_open }
     requires few { length tokens.now.items < 2 ^ 32 }
-    ensures reads { ReadsFront (IsFormulaTree depth) limit tokens.now.end tokens.now.items from result }
-    ensures accepts { (e : Expr) (taken : ℕ) → IsLongest (IsFormulaTree depth) limit (drop from tokens.now.items) e taken → Answers result (e, from + taken) }
+    ensures reads { ReadsFront (IsFormulaTree depth) most_open tokens.now.end tokens.now.items from result }
+    ensures accepts { (e : Expr) (taken : ℕ) → IsLongest (IsFormulaTree depth) most_open (drop from tokens.now.items) e taken → Answers result (e, from + taken) }
 {
     let front = tokens_from(tokens, from);
-    match read_formula(alloc, front, LIMIT - depth) {
+    match read_formula(alloc, front, MOST_OPEN - depth) {
         Ok((part, rest)) => Ok((part.into_tree(), (tokens.len() - rest.len()) as u32)),
         Err(fault) => Err(placed(front, tokens.end, fault)),
     }

@@ -4,7 +4,7 @@ use Rattle.pv_base.specs.declared.Name.{Name}
 use Rattle.pv_base.specs.declared.Span.{Span}
 use Rattle.pv_ast.specs.declared.Program.{Program}
 use Rattle.pv_reading.specs.Marks.{Tokens, Marked, Within}
-use Rattle.pv_reading.specs.Spelled.{Spells, SpellsWithin, IsUnexpected, IsTooDeep}
+use Rattle.pv_reading.specs.Spelled.{most_open, Spells, SpellsWithin, IsUnexpected, IsTooDeep}
 use Rattle.pv_reading.proofs.Calls as calls
 use Rattle.pv_reading.proofs.Whole as whole
 use Rattle.pv_parser.specs.Grammar.{IsProgram}
@@ -47,10 +47,11 @@ one_program tokens length a b s t =
 -- Tokens have one fault at most.
 
 module _ (length : Option Name) (tokens : Tokens) where
-  pub one_too_deep : (place other : Span) → IsTooDeep (IsProgram length) 64 tokens place
-      → IsTooDeep (IsProgram length) 64 tokens other → place ≡ other
-  one_too_deep place other h k = whole.one_too_deep (program_exact 64 length) refl tokens place other h k
+  pub one_too_deep : (place other : Span) → IsTooDeep (IsProgram length) most_open tokens place
+      → IsTooDeep (IsProgram length) most_open tokens other → place ≡ other
+  one_too_deep place other h k = whole.one_too_deep (program_exact most_open length) refl tokens place other h k
 
-  pub unexpected_not_deep : (end : ℕ) (place other : Span) → IsUnexpected (IsProgram length) 64 end tokens place
-      → IsTooDeep (IsProgram length) 64 tokens other → ⊥
-  unexpected_not_deep end place other h k = whole.unexpected_not_deep (program_exact 64 length) refl end tokens place other h k
+  pub unexpected_not_deep : (end : ℕ) (place other : Span) → IsUnexpected (IsProgram length) most_open end tokens place
+      → IsTooDeep (IsProgram length) most_open tokens other → ⊥
+  unexpected_not_deep end place other h k = whole.unexpected_not_deep (program_exact most_open length) refl end tokens place other
+      h k

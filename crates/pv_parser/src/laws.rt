@@ -5,9 +5,9 @@ ghost use Rattle.pv_tokens.specs.declared.Lexeme.{Lexeme};
 ghost use Rattle.pv_tokens.specs.Lexemes.{AreWithin};
 ghost use Rattle.pv_ast.specs.declared.Program.{Program};
 ghost use Rattle.pv_ast.specs.Measures.{literals_of_program};
+ghost use Rattle.pv_ast.specs.Rules.WellFormed.{above_numbers};
 ghost use Rattle.pv_ast.specs.Rules.Numbers.{numbers_of_program};
-ghost use Rattle.pv_reading.specs.Spelled.{Spells, SpellsWithin};
-ghost use Rattle.pv_exprs.specs.Spelled.{limit};
+ghost use Rattle.pv_reading.specs.Spelled.{Spells, SpellsWithin, most_open};
 ghost use Rattle.pv_parser.specs.Grammar.{IsProgram};
 
 /// Tokens spell at most one program, at whatever depth.
@@ -20,7 +20,7 @@ pub fn one_tree()
 /// is.
 pub fn few_literals()
     ensures few { (length_name : Option Name) (tokens : List Lexeme) (p : Program)
-        → SpellsWithin (IsProgram length_name) limit tokens p → literals_of_program p ≤ length tokens }
+        → SpellsWithin (IsProgram length_name) most_open tokens p → literals_of_program p ≤ length tokens }
     ensures small { (length_name : Option Name) (tokens : List Lexeme) (p : Program)
-        → SpellsWithin (IsProgram length_name) limit tokens p → AreWithin tokens → All (λ n. n < 2 ^ 63) (numbers_of_program p) }
+        → SpellsWithin (IsProgram length_name) most_open tokens p → AreWithin tokens → All (λ n. n < above_numbers) (numbers_of_program p) }
 {}

@@ -7,8 +7,9 @@ use Rattle.pv_ast.specs.declared.PvType.{PvType}
 use Rattle.pv_ast.specs.declared.PvType.TheVariants as type
 use Rattle.pv_ast.specs.declared.Token.{Token}
 use Rattle.pv_ast.specs.declared.Token.TheVariants as token
-use Rattle.pv_values.specs.Heaps.{same_name, same_number}
-use Rattle.pv_picks.specs.Formulas.Values.{same_type}
+use Rattle.pv_values.specs.Heaps.{same_number}
+use Rattle.pv_base.specs.Names.{same_name}
+use Rattle.pv_ast.specs.Rules.Typing.{same_type}
 use Rattle.pv_picks.specs.Judge.States.{Resource, InField, InElement, OfToken, OfLock, same_token, same_resource}
 
 pub front : (a b : Bool) → (a && b) ≡ true → a ≡ true

@@ -4,6 +4,10 @@ use Rattle.pv_base.specs.declared.Span.{Span}
 use Rattle.pv_tokens.specs.declared.Lexeme.{Lexeme}
 use Rattle.pv_reading.specs.Marks.{Tokens, Marked, plain, Within, next_of, place_of}
 
+-- how many constructs of a text may be open at once
+abbrev pub most_open : ℕ
+most_open = 64
+
 -- a rule: tokens, up to a rest of them, spell a tree
 abbrev pub Rule : Type 0 → Type 1
 Rule A = Marked → A → Marked → Type 0

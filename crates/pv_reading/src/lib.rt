@@ -7,4 +7,7 @@ mod sight;
 
 pub use fault::{ParseFault, ReadFault};
 pub use places::{place, placed, tokens_from};
+/// How many constructs of a text may be open at once.
+pub const MOST_OPEN: u32 = 64;
+
 pub use sight::{across, after, expected, expected_name, expected_number, named, numbered};

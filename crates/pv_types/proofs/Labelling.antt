@@ -7,7 +7,7 @@ use Rattle.pv_ast.specs.declared.Word.{Word}
 use Rattle.pv_ast.specs.declared.fault.Fault.{Fault}
 use Rattle.pv_ast.specs.declared.fault.Rule.{Rule}
 use Rattle.pv_ast.specs.Rules.Faults.{least, broken_if, broken_unless}
-use Rattle.pv_ast.specs.Rules.Lookup.{same_name}
+use Rattle.pv_base.specs.Names.{same_name}
 use Rattle.pv_ast.specs.Rules.Statements.{has_label, repeated_behind}
 use Rattle.pv_types.specs.declared.sets.NameSet.{NameSet}
 use Rattle.pv_types.specs.Sets.{has_name, HasLabels, Repeats}

@@ -1,7 +1,7 @@
 ghost use Rattle.std.specs.Prelude.{◌≡◌, ◌||◌, not, false, nat_eq, IfOk, OnOk};
 ghost use Rattle.indexmap.specs.IndexSet.{contains};
 ghost use Rattle.pv_base.specs.declared.Name.{Name as NameOf};
-ghost use Rattle.pv_ast.specs.Rules.Lookup.{same_name};
+ghost use Rattle.pv_base.specs.Names.{same_name};
 
 use indexmap::IndexSet;
 use pv_base::{Name, NoMemory};

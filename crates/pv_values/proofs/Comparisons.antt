@@ -11,7 +11,8 @@ use Rattle.pv_values.specs.declared.value.Location.{Location}
 use Rattle.pv_values.specs.declared.value.Location.TheVariants.{Field, Cell}
 use Rattle.pv_values.specs.declared.thing.Thing.{Thing}
 use Rattle.pv_values.specs.declared.thing.Thing.TheVariants.{Object, Array}
-use Rattle.pv_values.specs.Heaps.{Fields, field_value, element, same_name, same_number, Things, thing_at, value_at, field_in, element_in, class_in, length_in, AreSame}
+use Rattle.pv_values.specs.Heaps.{Fields, field_value, element, same_number, Things, thing_at, value_at, field_in, element_in, class_in, length_in, AreSame}
+use Rattle.pv_base.specs.Names.{same_name}
 use Rattle.pv_values.specs.Sames.{same_truth, same_value, same_found, same_elements, agree_on, same_fields, same_thing, same_things}
 
 first_of_both : (a b : Bool) → (a && b) ≡ true → a ≡ true

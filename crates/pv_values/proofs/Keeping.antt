@@ -8,7 +8,8 @@ use Rattle.pv_values.specs.declared.value.Value.{Value}
 use Rattle.pv_values.specs.declared.value.Value.TheVariants.{Number, Truth, Reference}
 use Rattle.pv_values.specs.declared.value.Location.{Location}
 use Rattle.pv_values.specs.declared.value.Location.TheVariants.{Field, Cell}
-use Rattle.pv_values.specs.Heaps.{Things, value_at, class_of, same_name, same_number, same_location}
+use Rattle.pv_values.specs.Heaps.{Things, value_at, class_of, same_number, same_location}
+use Rattle.pv_base.specs.Names.{same_name}
 use Rattle.pv_values.specs.Changes.{IsWritten}
 use Rattle.pv_values.specs.Typing.{Kind, numbers, truths, objects, int_arrays, truth_arrays, nulls, is_number, is_truth, HoldsOnly, IsArrayOf, Refers, HasKindOf, FitsAt, IsWellTyped}
 

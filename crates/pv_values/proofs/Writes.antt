@@ -10,7 +10,8 @@ use Rattle.pv_values.specs.declared.value.Value.{Value}
 use Rattle.pv_values.specs.declared.value.Location.{Location}
 use Rattle.pv_values.specs.declared.value.Location.TheVariants.{Field, Cell}
 use Rattle.pv_values.specs.declared.thing.Thing.{Thing}
-use Rattle.pv_values.specs.Heaps.{Fields, field_value, same_name, Things, thing_at, value_at, field_in, element_in, same_location, same_number}
+use Rattle.pv_values.specs.Heaps.{Fields, field_value, Things, thing_at, value_at, field_in, element_in, same_location, same_number}
+use Rattle.pv_base.specs.Names.{same_name}
 use Rattle.pv_values.specs.Changes.{IsThingWithField, IsThingWithElement}
 
 first_field : (x n k : ℕ) (v old : Value) (rest : Option Value) (t s : Bool) → nat_eq n k ≡ true → nat_eq x n ≡ t → nat_eq x k ≡ s

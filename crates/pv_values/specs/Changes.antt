@@ -5,7 +5,8 @@ use Rattle.pv_values.specs.declared.value.Value.{Value}
 use Rattle.pv_values.specs.declared.value.Location.{Location}
 use Rattle.pv_values.specs.declared.value.Location.TheVariants.{Field, Cell}
 use Rattle.pv_values.specs.declared.thing.Thing.{Thing}
-use Rattle.pv_values.specs.Heaps.{Fields, field_value, field_in, element_in, class_in, length_in, same_name, same_number, same_location, Things, value_at, class_of, length_of, count_of}
+use Rattle.pv_values.specs.Heaps.{Fields, field_value, field_in, element_in, class_in, length_in, same_number, same_location, Things, value_at, class_of, length_of, count_of}
+use Rattle.pv_base.specs.Names.{same_name}
 
 -- the object or the array of a location
 abbrev pub owner_of : Location → ℕ

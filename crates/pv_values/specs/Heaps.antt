@@ -2,14 +2,12 @@
 -- is null.
 use Rattle.std.specs.Prelude.{◌≡◌, ℕ, zero, suc, ℤ, pos, negsuc, Bool, false, ◌&&◌, nat_eq, int_le, Option, Some, None, List, [], ◌∷◌, length, slice_get, if◌then◌else◌}
 use Rattle.pv_base.specs.declared.Name.{Name}
+use Rattle.pv_base.specs.Names.{same_name}
 use Rattle.pv_values.specs.declared.value.Value.{Value}
 use Rattle.pv_values.specs.declared.value.Location.{Location}
 use Rattle.pv_values.specs.declared.value.Location.TheVariants.{Field, Cell}
 use Rattle.pv_values.specs.declared.thing.Thing.{Thing}
 use Rattle.pv_values.specs.declared.thing.Thing.TheVariants.{Object, Array}
-
-abbrev pub same_name : Name → Name → Bool
-same_name a b = nat_eq a.0 b.0
 
 abbrev pub same_number : ℤ → ℤ → Bool
 same_number a b = int_le a b && int_le b a

@@ -5,7 +5,8 @@ use Rattle.pv_values.specs.declared.value.Value.{Value}
 use Rattle.pv_values.specs.declared.value.Value.TheVariants.{Number, Truth, Reference}
 use Rattle.pv_values.specs.declared.thing.Thing.{Thing}
 use Rattle.pv_values.specs.declared.thing.Thing.TheVariants.{Object, Array}
-use Rattle.pv_values.specs.Heaps.{Fields, field_value, same_name, same_number, Things}
+use Rattle.pv_values.specs.Heaps.{Fields, field_value, same_number, Things}
+use Rattle.pv_base.specs.Names.{same_name}
 
 abbrev pub same_truth : Bool → Bool → Bool
 same_truth a b = if a then b else not b

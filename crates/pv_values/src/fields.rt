@@ -1,6 +1,7 @@
 //! The fields of one object, and the elements of one array.
 ghost use Rattle.std.specs.Prelude.{◌≡◌, IsSome, Some, position, if◌then◌else◌};
 ghost use Rattle.pv_base.specs.declared.Name.{Name as AnyName};
+ghost use Rattle.pv_base.specs.Names as names;
 ghost use Rattle.pv_values.specs.Heaps as heaps;
 
 use crate::value::Value;
@@ -31,7 +32,7 @@ pub(crate) fn element(elements: &[Value], index: i128) -> Option<Value>
 
 /// The place of the first field that has a name.
 fn place_of(fields: &[(Name, Value)], name: Name) -> Option<usize>
-    ensures { result ≡ position (λ f. heaps.same_name name f.0) fields.now }
+    ensures { result ≡ position (λ f. names.same_name name f.0) fields.now }
 {
     fields.iter().position(|field| name.0 == field.0.0)
 }
@@ -40,7 +41,7 @@ fn place_of(fields: &[(Name, Value)], name: Name) -> Option<usize>
 pub(crate) fn set_field(fields: &mut Items<(Name, Value)>, name: Name, value: Value)
     requires { IsSome (heaps.field_value fields.old name) }
     ensures { (other : AnyName) → heaps.field_value fields.new other
-        ≡ (if heaps.same_name other name then Some value else heaps.field_value fields.old other) }
+        ≡ (if names.same_name other name then Some value else heaps.field_value fields.old other) }
 {
     if let Some(place) = place_of(fields.as_slice(), name) {
         fields.set(place, (name, value));

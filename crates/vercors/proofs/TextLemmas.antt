@@ -12,7 +12,7 @@ use Rattle.pv_tokens.specs.Lexemes.{IsNumberOf}
 use Rattle.pv_reading.specs.declared.fault.ParseFault.{ParseFault}
 use Rattle.pv_reading.specs.declared.fault.ParseFault.TheVariants as parse
 use Rattle.pv_reading.specs.Answers.{ReadsAll, Answers}
-use Rattle.pv_reading.specs.Spelled.{SpellsWithin, IsUnexpected, IsTooDeep}
+use Rattle.pv_reading.specs.Spelled.{most_open, SpellsWithin, IsUnexpected, IsTooDeep}
 use Rattle.pv_report.specs.declared.refusing.Refusal.{Refusal}
 use Rattle.pv_report.specs.declared.refusing.Refusal.TheVariants as refusal
 use Rattle.pv_base.specs.declared.Span.{Span}
@@ -92,31 +92,31 @@ found_here text before names found e read numbered only faultless at =
 -- what the text spells is spelled by its tokens
 pub spelled_here : {text : List ℕ} {names : List (List ℕ)} {found : Tokens} → Found text names found
     → (others : List (List ℕ)) (program : Program) → SpellsProgram text others program
-    → SpellsWithin (IsProgram found.length) 64 found.items program
+    → SpellsWithin (IsProgram found.length) most_open found.items program
 spelled_here {found = found} f others program s =
     let same = f.same others s.lexemes s.length_name s.tokens in
-    let R : List Lexeme → Type 0 = λ xs. SpellsWithin (IsProgram s.length_name) 64 xs program in
-    let T : Option Name → Type 0 = λ n. SpellsWithin (IsProgram n) 64 found.items program in
+    let R : List Lexeme → Type 0 = λ xs. SpellsWithin (IsProgram s.length_name) most_open xs program in
+    let T : Option Name → Type 0 = λ n. SpellsWithin (IsProgram n) most_open found.items program in
     subst T (sym same.1) (subst R (sym same.0) s.spelled)
 
 unexpected_here : {text : List ℕ} {names : List (List ℕ)} {found : Tokens} → Found text names found
     → (others : List (List ℕ)) (lexemes : List Lexeme) (length_name : Option Name) (place : Span)
-    → HasTokens text others lexemes length_name → IsUnexpected (IsProgram length_name) 64 (length text) lexemes place
-    → IsUnexpected (IsProgram found.length) 64 (length text) found.items place
+    → HasTokens text others lexemes length_name → IsUnexpected (IsProgram length_name) most_open (length text) lexemes place
+    → IsUnexpected (IsProgram found.length) most_open (length text) found.items place
 unexpected_here {text = text} {found = found} f others lexemes length_name place has h =
     let same = f.same others lexemes length_name has in
-    let R : List Lexeme → Type 0 = λ xs. IsUnexpected (IsProgram length_name) 64 (length text) xs place in
-    let T : Option Name → Type 0 = λ n. IsUnexpected (IsProgram n) 64 (length text) found.items place in
+    let R : List Lexeme → Type 0 = λ xs. IsUnexpected (IsProgram length_name) most_open (length text) xs place in
+    let T : Option Name → Type 0 = λ n. IsUnexpected (IsProgram n) most_open (length text) found.items place in
     subst T (sym same.1) (subst R (sym same.0) h)
 
 too_deep_here : {text : List ℕ} {names : List (List ℕ)} {found : Tokens} → Found text names found
     → (others : List (List ℕ)) (lexemes : List Lexeme) (length_name : Option Name) (place : Span)
-    → HasTokens text others lexemes length_name → IsTooDeep (IsProgram length_name) 64 lexemes place
-    → IsTooDeep (IsProgram found.length) 64 found.items place
+    → HasTokens text others lexemes length_name → IsTooDeep (IsProgram length_name) most_open lexemes place
+    → IsTooDeep (IsProgram found.length) most_open found.items place
 too_deep_here {found = found} f others lexemes length_name place has h =
     let same = f.same others lexemes length_name has in
-    let R : List Lexeme → Type 0 = λ xs. IsTooDeep (IsProgram length_name) 64 xs place in
-    let T : Option Name → Type 0 = λ n. IsTooDeep (IsProgram n) 64 found.items place in
+    let R : List Lexeme → Type 0 = λ xs. IsTooDeep (IsProgram length_name) most_open xs place in
+    let T : Option Name → Type 0 = λ n. IsTooDeep (IsProgram n) most_open found.items place in
     subst T (sym same.1) (subst R (sym same.0) h)
 
 -- Faults of tokens.
@@ -198,14 +198,15 @@ refused_by_tokens text before e (Err f) none h untold only k =
 -- no other fault of the text than this
 only_unexpected : {text : List ℕ} {names : List (List ℕ)} {found : Tokens} → Found text names found → (place : Span)
     → ((others : List (List ℕ)) (p : Program) → SpellsProgram text others p → ⊥)
-    → IsUnexpected (IsProgram found.length) 64 (length text) found.items place → HasOnly text (refusal.Unexpected place)
+    → IsUnexpected (IsProgram found.length) most_open (length text) found.items place → HasOnly text (refusal.Unexpected place)
 only_unexpected f place none h _ (bad_byte x) = absurd (f.faultless _ x)
 only_unexpected f place none h _ (bad_number x) = absurd (f.faultless _ x)
 only_unexpected f place none h _ (open_comment x) = absurd (f.faultless _ x)
 only_unexpected f place none h _ (full x) = absurd (f.faultless _ x)
 only_unexpected {text = text} {found = found} f place none h _
     (unexpected {names} {lexemes} {length_name} {place = other} has k) =
-    ap (λ (s : Span). refusal.Unexpected s) (one_unexpected (IsProgram found.length) 64 (length text) found.items place other h
+    ap (λ (s : Span). refusal.Unexpected s) (one_unexpected (IsProgram found.length) most_open (length text) found.items place
+        other h
     (unexpected_here f names lexemes length_name other has k))
 only_unexpected {text = text} {found = found} f place none h _ (too_deep {names} {lexemes} {length_name} {place = other} has k) =
     absurd (unexpected_not_deep found.length found.items (length text) place other h
@@ -214,7 +215,7 @@ only_unexpected f place none h _ (of_program {names} {program} spells k) = absur
 
 only_too_deep : {text : List ℕ} {names : List (List ℕ)} {found : Tokens} → Found text names found → (place : Span)
     → ((others : List (List ℕ)) (p : Program) → SpellsProgram text others p → ⊥)
-    → IsTooDeep (IsProgram found.length) 64 found.items place → HasOnly text (refusal.TooDeep place)
+    → IsTooDeep (IsProgram found.length) most_open found.items place → HasOnly text (refusal.TooDeep place)
 only_too_deep f place none h _ (bad_byte x) = absurd (f.faultless _ x)
 only_too_deep f place none h _ (bad_number x) = absurd (f.faultless _ x)
 only_too_deep f place none h _ (open_comment x) = absurd (f.faultless _ x)
@@ -230,13 +231,13 @@ only_too_deep f place none h _ (of_program {names} {program} spells k) = absurd 
 -- tokens that spell no program are refused for it
 pub refused_by_grammar : (text : List ℕ) (names : List (List ℕ)) (found : Tokens) (e : ParseFault) (r : Result Program TextFault)
     → Found text names found
-    → ReadsAll (IsProgram found.length) 64 found.end found.items (Err e)
+    → ReadsAll (IsProgram found.length) most_open found.end found.items (Err e)
     → ((others : List (List ℕ)) (p : Program) → SpellsProgram text others p → Answers (Err e) p)
     → IsErrAnd r (OfParsing e) → IfErr r (λ fault. Refuses text fault)
 refused_by_grammar text names found e (Ok p) f h none k = tt
 refused_by_grammar text names found (parse.Unexpected place) (Err x) f h none k =
-    let P : ℕ → Type 0 = λ n. IsUnexpected (IsProgram found.length) 64 n found.items place in
-    let here : IsUnexpected (IsProgram found.length) 64 (length text) found.items place = subst P f.at_end h in
+    let P : ℕ → Type 0 = λ n. IsUnexpected (IsProgram found.length) most_open n found.items place in
+    let here : IsUnexpected (IsProgram found.length) most_open (length text) found.items place = subst P f.at_end h in
     subst (λ (y : TextFault). Refuses text y) (sym k) (unexpected f.has here, only_unexpected f place none here)
 refused_by_grammar text names found (parse.TooDeep place) (Err x) f h none k =
     subst (λ (y : TextFault). Refuses text y) (sym k) (too_deep f.has h, only_too_deep f place none h)
@@ -255,7 +256,7 @@ none_by_grammar text parse.NoMemory (Err f) a k = λ filled. absurd (filled k)
 -- Programs.
 
 program_here : {text : List ℕ} {names : List (List ℕ)} {found : Tokens} → Found text names found → (p : Program)
-    → SpellsWithin (IsProgram found.length) 64 found.items p → SpellsProgram text names p
+    → SpellsWithin (IsProgram found.length) most_open found.items p → SpellsProgram text names p
 program_here {found = found} f p s = record { lexemes = found.items; length_name = found.length; tokens = f.has; spelled = s }
 
 -- no other program than this is spelled
@@ -264,30 +265,30 @@ IsOnly text p = (others : List (List ℕ)) (q : Program) → SpellsProgram text 
 
 -- a text that spells a program is refused for nothing but what the program is refused for
 refusal_of_program : {text : List ℕ} {names : List (List ℕ)} {found : Tokens} → Found text names found → (p : Program)
-    → SpellsWithin (IsProgram found.length) 64 found.items p → IsOnly text p
+    → SpellsWithin (IsProgram found.length) most_open found.items p → IsOnly text p
     → (r : Refusal) → IsRefused text r → IsProgramRefused p r
 refusal_of_program f p s one _ (bad_byte x) = absurd (f.faultless _ x)
 refusal_of_program f p s one _ (bad_number x) = absurd (f.faultless _ x)
 refusal_of_program f p s one _ (open_comment x) = absurd (f.faultless _ x)
 refusal_of_program f p s one _ (full x) = absurd (f.faultless _ x)
 refusal_of_program {text = text} {found = found} f p s one _ (unexpected {names} {lexemes} {length_name} {place} has k) =
-    absurd (spelled_not_unexpected (IsProgram found.length) 64 (length text) found.items p place s
+    absurd (spelled_not_unexpected (IsProgram found.length) most_open (length text) found.items p place s
     (unexpected_here f names lexemes length_name place has k))
 refusal_of_program {found = found} f p s one _ (too_deep {names} {lexemes} {length_name} {place} has k) =
-    absurd (spelled_not_too_deep (IsProgram found.length) 64 found.items p place s
+    absurd (spelled_not_too_deep (IsProgram found.length) most_open found.items p place s
     (too_deep_here f names lexemes length_name place has k))
 refusal_of_program f p s one _ (of_program {names} {program} {refusal = r} spells k) =
     let P : Program → Type 0 = λ q. IsProgramRefused q r in subst P (sym (one names program spells)) k
 
 -- a text that spells an accepted program has no refusal
 pub no_refusal : {text : List ℕ} {names : List (List ℕ)} {found : Tokens} → Found text names found → (p : Program)
-    → SpellsWithin (IsProgram found.length) 64 found.items p → IsOnly text p
+    → SpellsWithin (IsProgram found.length) most_open found.items p → IsOnly text p
     → IsAccepted p → HasNoRefusal text
 no_refusal f p s one accepted r refused = accepted_unrefused p r accepted (refusal_of_program f p s one r refused)
 
 -- a text that spells a refused program is refused for the same, and for nothing else
 refused_text : {text : List ℕ} {names : List (List ℕ)} {found : Tokens} → Found text names found → (p : Program)
-    → SpellsWithin (IsProgram found.length) 64 found.items p → IsOnly text p
+    → SpellsWithin (IsProgram found.length) most_open found.items p → IsOnly text p
     → (fault : TextFault) → RefusesProgram p fault → Refuses text fault
 refused_text f p s one (Refused r) h =
     (of_program (program_here f p s) h, λ other k. one_refusal p r other h (refusal_of_program f p s one other k))
@@ -295,7 +296,7 @@ refused_text f p s one NoMemory h = tt
 
 -- the same of the answer that carries the fault on
 pub refused_by_program : {text : List ℕ} {names : List (List ℕ)} {found : Tokens} → Found text names found → (p : Program)
-    → SpellsWithin (IsProgram found.length) 64 found.items p → IsOnly text p
+    → SpellsWithin (IsProgram found.length) most_open found.items p → IsOnly text p
     → (e : TextFault) (r : Result Program TextFault) → RefusesProgram p e → IsErrAnd r (λ x. x ≡ e)
     → IfErr r (λ fault. Refuses text fault)
 refused_by_program f p s one e (Ok q) h k = tt

@@ -6,7 +6,7 @@ use Rattle.pv_ast.specs.declared.Program.{Program}
 use Rattle.pv_tokens.specs.declared.Lexeme.{Lexeme}
 use Rattle.pv_tokens.specs.declared.TokenFault.TheVariants as token
 use Rattle.pv_tokens.specs.Progress.{IsFault}
-use Rattle.pv_reading.specs.Spelled.{IsUnexpected, IsTooDeep}
+use Rattle.pv_reading.specs.Spelled.{most_open, IsUnexpected, IsTooDeep}
 use Rattle.pv_parser.specs.Grammar.{IsProgram}
 use Rattle.pv_ast.specs.declared.fault.Rule.{Rule}
 use Rattle.pv_ast.specs.declared.fault.ShapeFault.TheVariants as shape
@@ -41,10 +41,10 @@ pub data IsRefused (text : List ℕ) : Refusal → Type 0 where
   open_comment : {at : ℕ} → IsFault text [] (token.OpenComment at) → IsRefused text (OpenComment at)
   full : IsFault text [] token.Full → IsRefused text Full
   unexpected : {names : List (List ℕ)} {lexemes : List Lexeme} {length_name : Option Name} {place : Span}
-      → HasTokens text names lexemes length_name → IsUnexpected (IsProgram length_name) 64 (length text) lexemes place
+      → HasTokens text names lexemes length_name → IsUnexpected (IsProgram length_name) most_open (length text) lexemes place
       → IsRefused text (Unexpected place)
   too_deep : {names : List (List ℕ)} {lexemes : List Lexeme} {length_name : Option Name} {place : Span}
-      → HasTokens text names lexemes length_name → IsTooDeep (IsProgram length_name) 64 lexemes place
+      → HasTokens text names lexemes length_name → IsTooDeep (IsProgram length_name) most_open lexemes place
       → IsRefused text (TooDeep place)
   of_program : {names : List (List ℕ)} {program : Program} {refusal : Refusal} → SpellsProgram text names program
       → IsProgramRefused program refusal → IsRefused text refusal

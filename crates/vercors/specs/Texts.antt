@@ -7,7 +7,7 @@ use Rattle.pv_ast.specs.declared.Program.{Program}
 use Rattle.pv_tokens.specs.declared.Lexeme.{Lexeme}
 use Rattle.pv_tokens.specs.Progress.{IsTokens}
 use Rattle.pv_tokens.specs.Lexemes.{IsNumberOf}
-use Rattle.pv_reading.specs.Spelled.{SpellsWithin}
+use Rattle.pv_reading.specs.Spelled.{most_open, SpellsWithin}
 use Rattle.pv_parser.specs.Grammar.{IsProgram}
 use Rattle.pv_ast.specs.Rules.Programs.{KeepsRules}
 use Rattle.pv_ast.specs.Rules.Shapes.{shape_faults_of}
@@ -21,12 +21,12 @@ pub record HasTokens (text : List ℕ) (names : List (List ℕ)) (lexemes : List
   pub read : IsTokens text [] lexemes names
   pub numbered : IsNumberOf names (codes "length") lexemes length_name
 
--- the tokens of the text spell the program, and at most 64 constructs are open at once
+-- the tokens of the text spell the program, with no more constructs open at once than may be
 pub record SpellsProgram (text : List ℕ) (names : List (List ℕ)) (program : Program) : Type 0 where
   pub lexemes : List Lexeme
   pub length_name : Option Name
   pub tokens : HasTokens text names lexemes length_name
-  pub spelled : SpellsWithin (IsProgram length_name) 64 lexemes program
+  pub spelled : SpellsWithin (IsProgram length_name) most_open lexemes program
 
 -- a program that is verified: it breaks no static rule, has no fault of shape, and is small
 pub record IsAccepted (program : Program) : Type 0 where

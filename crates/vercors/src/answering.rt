@@ -2,6 +2,7 @@
 ghost use Rattle.std.specs.Prelude.{◌≡◌, ◌↔◌, ◌≤◌, ◌<◌, ◌^◌, length, IfOk};
 ghost use Rattle.pv_tokens.specs.Bytes.{most_bytes};
 ghost use Rattle.pv_io.specs.Count.{HasRisen, last_count};
+ghost use Rattle.pv_ast.specs.Rules.WellFormed.{most_literals};
 ghost use Rattle.pv_ast.specs.Measures.{literals_of_program};
 ghost use Rattle.pv_words.specs.Words.{NoVerify};
 ghost use Rattle.vercors.specs.Texts.{SpellsSmallProgram, SpellsNone, SpellsOnly};
@@ -55,7 +56,7 @@ fn answer_to_program(
     requires spelled { SpellsSmallProgram text.now names.now program.now }
     requires one { SpellsOnly text.now program.now }
     requires unrefused { HasNoRefusal text.now }
-    requires few { literals_of_program program.now ≤ 2 ^ 20 }
+    requires few { literals_of_program program.now ≤ most_literals }
     ensures { IfOk result (λ answer. IsTextAnswer text.now answer.status answer.output) }
 {
     safe_where_no_run_fails();

@@ -3,7 +3,7 @@ use Rattle.std.proofs.Common.{◌≡◌, Bool, true, false, refl, subst, Some, L
 use Rattle.std.specs.Prelude.{if◌then◌else◌}
 use Rattle.std.specs.List.{filter_map}
 use Rattle.pv_base.specs.declared.Name.{Name}
-use Rattle.pv_values.specs.Heaps.{same_name}
+use Rattle.pv_base.specs.Names.{same_name}
 use Rattle.pv_picks.specs.Plain.Core.{Method, Class, Program}
 use Rattle.pv_picks.specs.Plain.Members.{first_that, has_name, is_run, method_of, members_of}
 use Rattle.pv_picks.specs.Typing.Blocks.{MethodFits, ProgramFits}

@@ -27,7 +27,8 @@ use Rattle.pv_ast.specs.declared.standing.Seen.{Seen}
 use Rattle.pv_ast.specs.declared.standing.Typing.{Typing}
 use Rattle.pv_ast.specs.declared.standing.Typing.TheVariants.{Unsettled, Untyped, Typed}
 use Rattle.pv_ast.specs.Rules.Faults.{Faults, none, both, broken_if, broken_unless}
-use Rattle.pv_ast.specs.Rules.Lookup.{same_name, class_named, field_named, predicate_named, method_named, has_run, has_lock_invariant}
+use Rattle.pv_ast.specs.Rules.Lookup.{class_named, field_named, predicate_named, method_named, has_run, has_lock_invariant}
+use Rattle.pv_base.specs.Names.{same_name}
 use Rattle.pv_ast.specs.Rules.Scoping.{Visible, declare_variable, is_visible, variable_named, is_local_variable, is_inner_local}
 use Rattle.pv_ast.specs.Rules.Typing as typing
 

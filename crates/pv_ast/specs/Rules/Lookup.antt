@@ -2,6 +2,7 @@
 use Rattle.std.specs.Prelude.{Bool, true, false, nat_eq, Option, Some, None, is_some, List, [], ◌∷◌, if◌then◌else◌}
 use Rattle.std.specs.List.{list_any, filter_map}
 use Rattle.pv_base.specs.declared.Name.{Name}
+use Rattle.pv_base.specs.Names.{same_name}
 use Rattle.pv_ast.specs.declared.PvType.{PvType}
 use Rattle.pv_ast.specs.declared.PvType.TheVariants.{Int, Truth, Object, IntArray, TruthArray, Null}
 use Rattle.pv_ast.specs.declared.Param.{Param}
@@ -10,9 +11,6 @@ use Rattle.pv_ast.specs.declared.Method.{Method}
 use Rattle.pv_ast.specs.declared.Member.{Member}
 use Rattle.pv_ast.specs.declared.Member.TheVariants as member
 use Rattle.pv_ast.specs.declared.Class.{Class}
-
-abbrev pub same_name : Name → Name → Bool
-same_name a b = nat_eq a.0 b.0
 
 abbrev pub field_of : Member → Option Param
 field_of (member.Field f) = Some f

@@ -34,7 +34,8 @@ use Rattle.pv_ast.specs.declared.standing.Surround.TheVariants as environment
 use Rattle.pv_ast.specs.declared.standing.Typing.{Typing}
 use Rattle.pv_ast.specs.declared.standing.Typing.TheVariants.{Unsettled, Untyped, Typed}
 use Rattle.pv_ast.specs.Rules.Faults.{Faults, none, both, broken_if, broken_unless}
-use Rattle.pv_ast.specs.Rules.Lookup.{same_name, class_named, has_run, has_lock_invariant, is_declared_type}
+use Rattle.pv_ast.specs.Rules.Lookup.{class_named, has_run, has_lock_invariant, is_declared_type}
+use Rattle.pv_base.specs.Names.{same_name}
 use Rattle.pv_ast.specs.Rules.Scoping.{Visible, declare_variable, entered, is_visible, is_inner_local, is_block_around, is_innermost_block}
 use Rattle.pv_ast.specs.Rules.Typing as typing
 use Rattle.pv_ast.specs.Rules.Expressions.{Environment, CheckedExpression, checked_expression, typing_in, args_meet, types_of, method_in, holder_of, seen_of_target, faults_of_call, faults_of_instance, lacks_role}

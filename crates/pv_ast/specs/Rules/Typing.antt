@@ -12,7 +12,7 @@ use Rattle.pv_ast.specs.declared.standing.Need.TheVariants.{Anything, Exactly, A
 use Rattle.pv_ast.specs.declared.standing.Typing.{Typing}
 use Rattle.pv_ast.specs.declared.standing.Typing.TheVariants.{Unsettled, Untyped, Typed}
 use Rattle.pv_ast.specs.Rules.Faults.{Faults, none, broken, broken_unless}
-use Rattle.pv_ast.specs.Rules.Lookup.{same_name}
+use Rattle.pv_base.specs.Names.{same_name}
 
 abbrev pub is_int : PvType → Bool
 is_int Int = true

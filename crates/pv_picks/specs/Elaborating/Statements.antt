@@ -18,7 +18,7 @@ use Rattle.pv_ast.specs.declared.RightKind.{RightKind}
 use Rattle.pv_ast.specs.declared.RightKind.TheVariants as right
 use Rattle.pv_ast.specs.declared.Stmt.{Stmt, Stmt-F, fold-Stmt}
 use Rattle.pv_ast.specs.declared.StmtKind.{StmtKind, StmtKind-F, fold-StmtKind, map-StmtKind}
-use Rattle.pv_ast.specs.Rules.Lookup.{same_name}
+use Rattle.pv_base.specs.Names.{same_name}
 use Rattle.pv_ast.specs.Rules.Scoping.{Visible, entered}
 use Rattle.pv_ast.specs.Rules.Expressions.{Environment}
 use Rattle.pv_ast.specs.Rules.Statements.{CheckedStatement, CheckedStatementKind, checked_in_statement_kind, checked_in_statement, with_loop_variable, with_block}

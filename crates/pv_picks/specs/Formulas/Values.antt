@@ -5,7 +5,6 @@ use Rattle.pv_ast.specs.declared.PvType.{PvType}
 use Rattle.pv_ast.specs.declared.PvType.TheVariants.{Int, Truth, Object, IntArray, TruthArray, Null}
 use Rattle.pv_values.specs.declared.value.Value.{Value}
 use Rattle.pv_values.specs.declared.value.Value.TheVariants as value
-use Rattle.pv_values.specs.Heaps.{same_name}
 use Rattle.pv_values.specs.Sames.{same_value}
 use Rattle.pv_picks.specs.Plain.Core.{Operation, Plus, Minus, Times, Comparison, Less, AtMost, Greater, AtLeast, Parameter}
 
@@ -69,16 +68,6 @@ no_variables name = value.Number (pos 0)
 -- the position of a repetition or of a member
 abbrev pub at_position : Variables → Name → ℤ → Variables
 at_position variables name position = with_variable variables name (value.Number position)
-
--- one type, with the class of objects
-abbrev pub same_type : PvType → PvType → Bool
-same_type Int Int = true
-same_type Truth Truth = true
-same_type (Object a) (Object b) = same_name a b
-same_type IntArray IntArray = true
-same_type TruthArray TruthArray = true
-same_type Null Null = true
-same_type _ _ = false
 
 -- the type of an array by that of its elements
 abbrev pub array_of : PvType → PvType

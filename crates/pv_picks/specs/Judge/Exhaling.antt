@@ -6,12 +6,11 @@ use Rattle.pv_base.specs.declared.Span.{Span}
 use Rattle.pv_ast.specs.declared.Token.TheVariants as token
 use Rattle.pv_values.specs.declared.value.Value.{Value}
 use Rattle.pv_picks.specs.declared.check.Check.{Check}
-use Rattle.pv_picks.specs.declared.check.Check.TheVariants as check
 use Rattle.pv_picks.specs.Plain.Core.{Expression, Formula, Fact, FieldPermission, ElementPermission, Holds, Instance, Star, When, Each, Items, NoItems, Join, Item, Elements, Repeated, Committed, Guarded, Fixed}
 use Rattle.pv_picks.specs.Formulas.Values.{number_in, truth_in, reference_in}
 use Rattle.pv_picks.specs.Formulas.Evaluation.{evaluate_all}
 use Rattle.pv_picks.specs.Judge.States.{Cells, Bind}
-use Rattle.pv_picks.specs.Judge.Settings.{Setting, Next, no_frame, choose, ArrayPart, formula_reader, if_within}
+use Rattle.pv_picks.specs.Judge.Settings.{Setting, Next, no_frame, choose, formula_reader, if_within}
 use Rattle.pv_picks.specs.Judge.Permissions.{give_field, give_element, give_range, take_token, take_instance}
 use Rattle.pv_picks.specs.Judge.Repetitions.{Range, range_of, bind_at, shifted, looks_of, value_in, arrays_read, notice_parts, unless_empty, cut_all}
 

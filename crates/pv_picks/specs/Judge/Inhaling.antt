@@ -2,9 +2,7 @@
 -- reads what isn't held.
 use Rattle.std.specs.Prelude.{ℤ, ◌+ℤ◌, pos, if◌then◌else◌, List, ◌∷◌}
 use Rattle.pv_base.specs.declared.Name.{Name}
-use Rattle.pv_base.specs.declared.Span.{Span}
 use Rattle.pv_values.specs.declared.value.Value.{Value}
-use Rattle.pv_picks.specs.declared.check.Check.TheVariants as check
 use Rattle.pv_picks.specs.Plain.Core.{Expression, Formula, Fact, FieldPermission, ElementPermission, Holds, Instance, Star, When, Each, Items, NoItems, Join, Item, Elements, Repeated, Committed, Guarded, Fixed}
 use Rattle.pv_picks.specs.Formulas.Values.{number_in, truth_in, reference_in}
 use Rattle.pv_picks.specs.Formulas.Evaluation.{evaluate_all}

@@ -6,12 +6,12 @@ use Rattle.pv_base.specs.declared.Span.{Span}
 use Rattle.pv_ast.specs.declared.PvType.{PvType}
 use Rattle.pv_values.specs.declared.value.Value.{Value}
 use Rattle.pv_values.specs.declared.value.Value.TheVariants as value
-use Rattle.pv_values.specs.Heaps.{same_name}
+use Rattle.pv_base.specs.Names.{same_name}
 use Rattle.pv_picks.specs.Plain.Core.{Operation, Plus, Minus, Times, Manner, Plain, Tabled, Expression, Constant, This, Result, Variable, Field, Element, Length, Not, Compute, Compare, Equal, And, Or, Implies, Old, Cut, Below, UpTo, Above, From, Provided}
 use Rattle.pv_picks.specs.Formulas.Values.{number_in, truth_in, reference_in, arithmetic, is_empty, at_position}
 use Rattle.pv_picks.specs.Formulas.Evaluation.{Reader, evaluate}
 use Rattle.pv_picks.specs.Formulas.Meeting.{guard_term}
-use Rattle.pv_picks.specs.Judge.States.{State, Cell, Cells, Bind, InField, InElement, cells_of}
+use Rattle.pv_picks.specs.Judge.States.{State, Cells, Bind, InField, InElement, cells_of}
 use Rattle.pv_picks.specs.Judge.Settings.{Setting, Next, AtField, AtArray, AtArrayLength, ArrayPart, Known, ends_of, unless_null, look_at_length, or_missing, formula_reader}
 
 abbrev pub bind_at : Bind → Name → ℤ → Bind

@@ -13,7 +13,8 @@ use Rattle.pv_picks.specs.declared.check.Check.{Check}
 use Rattle.pv_picks.specs.declared.check.Check.TheVariants as check
 use Rattle.pv_picks.specs.Plain.Core.{Expression, Formula, Items, Target, Nowhere, ToVariable, ToField, ToElement, Right, Value', Call, NewObject, NewArray, Parameter, Method, Program}
 use Rattle.pv_picks.specs.Plain.Members.{fields_of, method_named, run_of, invariant_of}
-use Rattle.pv_picks.specs.Formulas.Values.{Variables, number_in, reference_in, default_of, array_of, no_variables, with_arguments, same_type}
+use Rattle.pv_picks.specs.Formulas.Values.{Variables, number_in, reference_in, default_of, array_of, no_variables, with_arguments}
+use Rattle.pv_ast.specs.Rules.Typing.{same_type}
 use Rattle.pv_picks.specs.Formulas.Evaluation.{Reader, evaluate, evaluate_all}
 use Rattle.pv_picks.specs.Judge.States.{amount_of, InField, InElement, Cells, Bind, scene_of, cells_of, no_cells, plain_cell, with_cell, with_elements, with_value, with_length, with_local}
 use Rattle.pv_picks.specs.Judge.Settings.{Setting, Next, AtField, AtArray, AtArrayLength, ends_of, pick_value, unless_null, if_within, look_at_length, operate, or_missing, null}

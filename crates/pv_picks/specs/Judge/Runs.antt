@@ -1,6 +1,6 @@
 -- The judge: the run of one unit on given evidence. Its picks are taken in order, its operations from the table; a fact that is
 -- known must be true at each position.
-use Rattle.std.specs.Prelude.{◌≡◌, ℕ, zero, suc, ℤ, pos, ◌+ℤ◌, Bool, true, false, ◌&&◌, nat_lt, int_le, if◌then◌else◌, Option, Some, None, List, [], ◌∷◌}
+use Rattle.std.specs.Prelude.{◌≡◌, ℕ, zero, suc, ℤ, pos, Bool, true, false, ◌&&◌, nat_lt, int_le, if◌then◌else◌, List, [], ◌∷◌}
 use Rattle.pv_base.specs.declared.Span.{Span}
 use Rattle.pv_values.specs.declared.value.Value.{Value}
 use Rattle.pv_ast.specs.declared.Operator.{Operator}
@@ -17,7 +17,7 @@ use Rattle.pv_picks.specs.Plain.Core.{Operation, Plus, Minus, Times, Program}
 use Rattle.pv_picks.specs.Formulas.Values.{arithmetic, width}
 use Rattle.pv_picks.specs.Judge.States.{Cell, Written, FromSteps, as_element}
 use Rattle.pv_picks.specs.Judge.Repetitions.{test_from}
-use Rattle.pv_picks.specs.Judge.Settings.{Setting, Known}
+use Rattle.pv_picks.specs.Judge.Settings.{Setting}
 use Rattle.pv_picks.specs.Judge.UnitRuns.{task_of, judge_task, enter_task}
 
 -- how a run ends

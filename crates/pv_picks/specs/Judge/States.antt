@@ -7,9 +7,11 @@ use Rattle.pv_ast.specs.declared.Token.{Token}
 use Rattle.pv_ast.specs.declared.Token.TheVariants as token
 use Rattle.pv_values.specs.declared.value.Value.{Value}
 use Rattle.pv_values.specs.declared.value.Value.TheVariants as value
-use Rattle.pv_values.specs.Heaps.{same_name, same_number}
+use Rattle.pv_values.specs.Heaps.{same_number}
+use Rattle.pv_base.specs.Names.{same_name}
 use Rattle.pv_values.specs.Sames.{same_elements}
-use Rattle.pv_picks.specs.Formulas.Values.{Variables, no_variables, same_type, within, with_variable}
+use Rattle.pv_picks.specs.Formulas.Values.{Variables, no_variables, within, with_variable}
+use Rattle.pv_ast.specs.Rules.Typing.{same_type}
 use Rattle.pv_picks.specs.Formulas.Evaluation.{Scene}
 
 -- what a run holds amounts of: a field of an object, an element of an array, a token of an object, the lock of an object. Objects

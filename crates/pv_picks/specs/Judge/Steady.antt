@@ -1,8 +1,8 @@
 -- Where the position stands in a condition that is repeated: not in a term, and in a steady condition only in indexes with one
 -- shift.
-use Rattle.std.specs.Prelude.{◌≡◌, ◌⊎◌, ℤ, Bool, false, ◌||◌, Option, Some, List, [], ◌∷◌}
+use Rattle.std.specs.Prelude.{◌≡◌, ◌⊎◌, ℤ, Bool, false, ◌||◌, Some, List, [], ◌∷◌}
 use Rattle.pv_base.specs.declared.Name.{Name}
-use Rattle.pv_values.specs.Heaps.{same_name}
+use Rattle.pv_base.specs.Names.{same_name}
 use Rattle.pv_picks.specs.Plain.Core.{Expression, Constant, This, Result, Variable, Field, Element, Length, Not, Compute, Compare, Equal, And, Or, Implies, Old}
 use Rattle.pv_picks.specs.Judge.Repetitions.{Look, AtElements, AtElement, AtLength, AtTerm, shift_in}
 

@@ -5,10 +5,11 @@ use Rattle.std.specs.List.{flat_map, list_any}
 use Rattle.pv_ast.specs.declared.PvType.{PvType}
 use Rattle.pv_values.specs.declared.value.Value.{Value}
 use Rattle.pv_values.specs.declared.value.Value.TheVariants as value
-use Rattle.pv_values.specs.Heaps.{same_name, same_number}
+use Rattle.pv_values.specs.Heaps.{same_number}
+use Rattle.pv_base.specs.Names.{same_name}
 use Rattle.pv_values.specs.Sames.{same_value}
 use Rattle.pv_picks.specs.Plain.Core.{Operation, Plus, Minus, Times}
-use Rattle.pv_picks.specs.Formulas.Values.{same_type}
+use Rattle.pv_ast.specs.Rules.Typing.{same_type}
 use Rattle.pv_picks.specs.Judge.States.{same_token}
 use Rattle.pv_picks.specs.Judge.Settings.{Event, AtField, AtToken, AtLock, AtInstance, AtArray, AtArrayLength, ArrayPart, Known}
 

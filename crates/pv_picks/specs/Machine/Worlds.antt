@@ -2,7 +2,8 @@
 use Rattle.std.specs.Prelude.{ℕ, zero, suc, ℤ, pos, ◌+◌, ◌-◌, ◌+ℤ◌, Bool, true, false, not, ◌&&◌, nat_le, nat_lt, if◌then◌else◌, Option, Some, None, List, [], ◌∷◌, drop}
 use Rattle.pv_base.specs.declared.Name.{Name}
 use Rattle.pv_values.specs.declared.value.Value.{Value}
-use Rattle.pv_values.specs.Heaps.{same_name, same_number}
+use Rattle.pv_values.specs.Heaps.{same_number}
+use Rattle.pv_base.specs.Names.{same_name}
 use Rattle.pv_picks.specs.Plain.Core.{Action, Fork, Join', Lock, Unlock, Commit, Team, Block}
 use Rattle.pv_picks.specs.Formulas.Values.{number_in, reference_in, at_position, width}
 use Rattle.pv_picks.specs.Formulas.Heaps.{Heap, at_number}

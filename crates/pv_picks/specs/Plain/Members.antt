@@ -3,7 +3,7 @@ use Rattle.std.specs.Prelude.{Bool, false, not, if◌then◌else◌, Option, Som
 use Rattle.std.specs.List.{filter_map}
 use Rattle.pv_base.specs.declared.Name.{Name}
 use Rattle.pv_ast.specs.declared.PvType.{PvType}
-use Rattle.pv_values.specs.Heaps.{same_name}
+use Rattle.pv_base.specs.Names.{same_name}
 use Rattle.pv_picks.specs.Plain.Core.{Formula, Parameter, Predicate, Method, Member, IsField, IsPredicate, IsMethod, Class, Program}
 
 abbrev pub field_of : Member → Option Parameter
