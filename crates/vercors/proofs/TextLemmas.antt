@@ -206,7 +206,7 @@ only_unexpected f place none h _ (full x) = absurd (f.faultless _ x)
 only_unexpected {text = text} {found = found} f place none h _
     (unexpected {names} {lexemes} {length_name} {place = other} has k) =
     ap (λ (s : Span). refusal.Unexpected s) (one_unexpected (IsProgram found.length) most_open (length text) found.items place
-        other h
+    other h
     (unexpected_here f names lexemes length_name other has k))
 only_unexpected {text = text} {found = found} f place none h _ (too_deep {names} {lexemes} {length_name} {place = other} has k) =
     absurd (unexpected_not_deep found.length found.items (length text) place other h
