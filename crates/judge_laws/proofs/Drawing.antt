@@ -10,8 +10,8 @@ use Rattle.pv_picks.specs.Plain.Core.{Operation}
 use Rattle.pv_picks.specs.Judge.States.{Cell, Written, FromSteps, as_element}
 use Rattle.pv_picks.specs.Judge.UnitRuns.{task_of}
 use Rattle.pv_picks.specs.Judge.Runs.{Maps, maps_of, value_of_operation}
-use Rattle.pv_picks.specs.Lazy.Patterns.{Shown, Took}
-use Rattle.pv_picks.specs.Lazy.Runs.{taken_in, ranged, Memory, Final, final, ReadAs, UsedFor, Source, Lazily, LazyEnd, Unfit, Outcome, OneNumber, OneTurn, ForRange, at_end, showing, taking, picking, testing, from_picks, Drawn, from_values, element_or, operation_or, value_read, value_used, no_memory}
+use Rattle.pv_picks.specs.Lazy.Patterns.{Took}
+use Rattle.pv_picks.specs.Lazy.Runs.{taken_in, ranged, Memory, Final, final, Source, Lazily, Unfit, Outcome, OneNumber, OneTurn, ForRange, at_end, showing, taking, picking, testing, from_picks, Drawn, from_values, element_or, operation_or, value_read, value_used, no_memory}
 use Rattle.judge_laws.specs.Related.{AreRelated}
 use Rattle.judge_laws.specs.Drawing.{AreAt, turns_of, RunsAsDrawn}
 use Rattle.judge_laws.proofs.Sources.{lazy_related}

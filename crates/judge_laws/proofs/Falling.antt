@@ -12,7 +12,7 @@ use Rattle.pv_picks.specs.declared.evidence.Pick.{Pick}
 use Rattle.pv_picks.specs.declared.evidence.Pick.TheVariants.{Number, Turn, Steps}
 use Rattle.pv_picks.specs.declared.evidence.Entry.{Entry}
 use Rattle.pv_picks.specs.Plain.Core.{Operation, Manner, Plain, Tabled, Expression, Cut, Below, UpTo, Above, From, Provided, Formula, Fact, FieldPermission, ElementPermission, Holds, Instance, Star, When, Each, Items, NoItems, Join, Item, Elements, Repeated, Committed, Guarded, Fixed}
-use Rattle.pv_picks.specs.Formulas.Values.{number_in, truth_in, reference_in, within, is_empty}
+use Rattle.pv_picks.specs.Formulas.Values.{number_in, truth_in, within, is_empty}
 use Rattle.pv_picks.specs.Formulas.Meeting.{guard_term}
 use Rattle.pv_picks.specs.Judge.States.{State, Holding, amount_held, amount_of, holding, Resource, Folded, Cell, Cells, Bind, same_resource, is_among, without_instance, with_amount, without_range}
 use Rattle.pv_picks.specs.Judge.Settings.{Setting, Next, no_frame, ArrayPart, known_or_picked, look_at_length, operate, or_missing, formula_reader}

@@ -7,7 +7,7 @@ use Rattle.pv_ast.specs.declared.Token.TheVariants as token
 use Rattle.pv_values.specs.declared.value.Value.{Value}
 use Rattle.pv_picks.specs.Plain.Core.{Expression, Formula, Fact, FieldPermission, ElementPermission, Holds, Instance, Star, When, Each, Items, NoItems, Join, Item, Elements, Repeated, Committed, Guarded, Fixed}
 use Rattle.pv_picks.specs.Formulas.Values.{number_in, truth_in}
-use Rattle.pv_picks.specs.Judge.States.{State, Bind, cells_of}
+use Rattle.pv_picks.specs.Judge.States.{Bind, cells_of}
 use Rattle.pv_picks.specs.Judge.Settings.{Setting, Next}
 use Rattle.pv_picks.specs.Judge.Repetitions.{Range, range_of, bind_at, looks_of}
 use Rattle.pv_picks.specs.Judge.Inhaling as inhaling

@@ -1,7 +1,7 @@
 -- The judge ends as the lazy run does, or Blocked: where a fact isn't true at some position, the judge is Blocked when it comes
 -- to be known; else no later test of it fails.
-use Rattle.std.proofs.Common.{◌≡◌, ℕ, zero, suc, ◌+◌, ℤ, pos, negsuc, Bool, true, false, if◌then◌else◌, Option, Some, None, List, [], ◌∷◌, ◌++◌, refl, ap, sym, subst, ◌∙◌, ◌⊎◌, inl, inr, rules, arith}
-use Rattle.std.specs.Prelude.{◌&&◌, nat_lt, nat_eq, ◌+ℤ◌, ◌-ℤ◌, ◌<ℤ◌, ◌≤ℤ◌}
+use Rattle.std.proofs.Common.{◌≡◌, ℕ, zero, suc, ℤ, pos, Bool, true, false, if◌then◌else◌, Option, Some, None, List, [], ◌∷◌, ◌++◌, refl, sym, subst, ◌∙◌, ◌⊎◌, inl, inr, rules, arith}
+use Rattle.std.specs.Prelude.{◌&&◌, nat_lt, nat_eq, ◌+ℤ◌, ◌<ℤ◌, ◌≤ℤ◌}
 use Rattle.std.proofs.lemmas.Int.{ints, by_lt_z}
 use Rattle.pv_base.specs.declared.Span.{Span}
 use Rattle.pv_ast.specs.declared.PvType.{PvType}
@@ -17,13 +17,13 @@ use Rattle.pv_picks.specs.Judge.Settings.{Setting, Event, AtField, AtToken, AtLo
 use Rattle.pv_picks.specs.Judge.Repetitions.{shifted, bind_at, or_blocked, operation_tested, test_reader, test_at, test_from}
 use Rattle.pv_picks.specs.Judge.UnitRuns.{task_of}
 use Rattle.pv_picks.specs.Judge.Runs.{End, Blocked, Judged, Maps, maps_of, content, value_of_operation, judging_tests, judging}
-use Rattle.pv_picks.specs.Lazy.Patterns.{Shown, Took, positions_of}
-use Rattle.pv_picks.specs.Lazy.Runs.{taken_in, ranged, Memory, ReadAs, UsedFor, Final, final, LazyEnd, Ends, Unfit, Outcome, OneNumber, OneTurn, ForRange, at_end, showing, taking, picking, Source, Lazily, testing, lazy, from_picks, element_or, operation_or, value_read, value_used, quieted, remember_event, join_fact, part_events, reads_none, is_due, remember_test, test_once, name_ends, test_within, test_facts, test_all, lazy_event, first_shown, known_if, lazy_known, no_memory}
+use Rattle.pv_picks.specs.Lazy.Patterns.{positions_of}
+use Rattle.pv_picks.specs.Lazy.Runs.{taken_in, ranged, Memory, Final, final, Unfit, Outcome, OneTurn, at_end, Source, Lazily, testing, lazy, from_picks, element_or, operation_or, value_read, value_used, quieted, join_fact, part_events, reads_none, is_due, remember_test, test_once, name_ends, test_within, test_facts, test_all, lazy_event, first_shown, known_if, no_memory}
 use Rattle.judge_laws.specs.Related.{AreRelated}
 use Rattle.judge_laws.specs.Drawing.{FitReads, FitsUses}
 use Rattle.judge_laws.specs.Judging.{as_end, JudgesAsLazy}
 use Rattle.judge_laws.specs.Options.{or_none}
-use Rattle.pv_picks.proofs.Readers.{ReadersRelated, if_related, evaluate_related}
+use Rattle.pv_picks.proofs.Readers.{ReadersRelated, evaluate_related}
 use Rattle.judge_laws.proofs.Taking.{otherwise, test_at_related, test_from_related}
 use Rattle.judge_laws.proofs.Statements.{judge_related}
 use Rattle.judge_laws.proofs.Lookups.{read_right, used_right, fits_more}

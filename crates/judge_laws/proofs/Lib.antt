@@ -7,6 +7,7 @@ mod Falling
 pub mod Sources
 mod Drawing
 pub mod OneGo
+pub mod Parts
 pub mod Backing
 pub mod Lookups
 pub mod Judging

@@ -1,11 +1,11 @@
 -- What a lazy run remembers is what its maps and its table give.
-use Rattle.std.proofs.Common.{◌≡◌, ℕ, ℤ, Bool, true, false, ◌&&◌, ◌||◌, if◌then◌else◌, Option, Some, None, List, [], ◌∷◌, ◌++◌, refl, ap, sym, subst, ◌∙◌, ◌⊎◌, inl, inr, rules}
+use Rattle.std.proofs.Common.{◌≡◌, ℕ, ℤ, Bool, true, false, ◌&&◌, ◌||◌, if◌then◌else◌, Some, List, [], ◌∷◌, ◌++◌, refl, ap, sym, subst, ◌∙◌, ◌⊎◌, inl, inr, rules}
 use Rattle.std.specs.Prelude.{nat_eq, int_le}
 use Rattle.std.proofs.lemmas.Int.{ints}
 use Rattle.pv_values.specs.Heaps.{same_number}
 use Rattle.pv_picks.specs.declared.evidence.Entry.{Entry}
 use Rattle.pv_picks.specs.Plain.Core.{Operation, Plus, Minus, Times}
-use Rattle.pv_picks.specs.Judge.Runs.{Maps, taken_from, ordered, value_of_operation}
+use Rattle.pv_picks.specs.Judge.Runs.{Maps, taken_from, value_of_operation}
 use Rattle.pv_picks.specs.Lazy.Patterns.{Use, same_operation, same_use}
 use Rattle.pv_picks.specs.Lazy.Runs.{UsedFor, ReadAs, value_read, value_used, commutes, is_same_use}
 use Rattle.judge_laws.specs.Drawing.{FitReads, FitsUses}

@@ -1,21 +1,21 @@
 -- A drawn run is the run in one go, and then what comes next.
-use Rattle.std.proofs.Common.{◌≡◌, ℕ, suc, ℤ, Bool, true, false, if◌then◌else◌, Option, Some, None, List, [], ◌∷◌, ◌++◌, refl, ap, sym, ◌∙◌}
+use Rattle.std.proofs.Common.{◌≡◌, ℕ, ℤ, Bool, true, false, if◌then◌else◌, Option, Some, None, List, [], ◌∷◌, ◌++◌, refl, ap, sym, ◌∙◌}
 use Rattle.std.specs.Prelude.{nat_lt}
 use Rattle.pv_values.specs.declared.value.Value.{Value}
 use Rattle.pv_picks.specs.Plain.Core.{Operation}
 use Rattle.pv_picks.specs.Judge.States.{State, Cell, Written, FromSteps, as_element}
 use Rattle.pv_picks.specs.Lazy.Patterns.{Shown, Took}
-use Rattle.pv_picks.specs.Judge.Rows.{access_reader}
 use Rattle.pv_picks.specs.Lazy.Runs.{Memory, LazyEnd, Final, final, Unfit, Outcome, OneNumber, OneTurn, ForRange, at_end, showing, taking, picking, Source, Lazily, testing, lazy, Drawn, from_values, element_or, operation_or, value_read, value_used}
 use Rattle.judge_laws.specs.Related.{AreRelated}
-use Rattle.judge_laws.specs.OneGo.{Came, Goes, Stopped, Ran, gone, one_go, after, then_run, EvaluatesInOneGo, InhalesInOneGo, ExhalesInOneGo, ValuesInOneGo, JudgesInOneGo, StepsInOneGo}
+use Rattle.judge_laws.specs.OneGo.{EvaluatesInOneGo, InhalesInOneGo, ExhalesInOneGo, ValuesInOneGo, JudgesInOneGo, StepsInOneGo}
+use Rattle.pv_picks.specs.Lazy.Parts.{then_run, after, one_go, gone, Ran, Stopped, Came}
 use Rattle.judge_laws.proofs.Sources.{lazy_related}
 use Rattle.pv_picks.proofs.Readers.{evaluate_related}
 use Rattle.judge_laws.proofs.Formulas.{inhale_related, exhale_related}
 use Rattle.judge_laws.proofs.Statements.{access_related, judge_block_related}
 use Rattle.judge_laws.proofs.Taking.{formula_reader_related}
 
-append_append : (xs ys zs : List Shown) → (xs ++ ys) ++ zs ≡ xs ++ (ys ++ zs)
+pub append_append : {X : Type 0} (xs ys zs : List X) → (xs ++ ys) ++ zs ≡ xs ++ (ys ++ zs)
 append_append [] ys zs = refl
 append_append (x ∷ xs) ys zs = ap (λ ts. x ∷ ts) (append_append xs ys zs)
 
@@ -29,7 +29,7 @@ module _ {A E : Type 0} (values : ℕ → ℤ) (turns : ℕ → ℕ) (stop : Laz
   abbrev Continues : Lazily Drawn (Came A) → Lazily Drawn E → Type 0
   Continues x y = (m : Memory) (d : Drawn) → y m d ≡ then_run stop (x m d) next
 
-  shown_continues : (sh : List Shown) (o : Ran A) (q : Outcome E) → q ≡ then_run stop o next → showing sh q
+  pub shown_continues : (sh : List Shown) (o : Ran A) (q : Outcome E) → q ≡ then_run stop o next → showing sh q
       ≡ then_run stop (showing sh o) next
   shown_continues sh o q h =
       ap (showing sh) h ∙ ap (λ ts. record {

@@ -1,12 +1,11 @@
 -- A drawn run remembers the picks that it takes.
-use Rattle.std.proofs.Common.{◌≡◌, ℕ, suc, ℤ, Bool, true, false, if◌then◌else◌, Option, Some, None, List, [], ◌∷◌, ◌++◌, refl, ap, sym, subst, ◌∙◌}
+use Rattle.std.proofs.Common.{◌≡◌, ℕ, ℤ, Bool, true, false, if◌then◌else◌, Option, Some, None, List, [], ◌∷◌, ◌++◌, refl, ap, subst, ◌∙◌}
 use Rattle.std.specs.Prelude.{nat_lt}
 use Rattle.pv_values.specs.declared.value.Value.{Value}
 use Rattle.pv_picks.specs.Plain.Core.{Operation}
 use Rattle.pv_picks.specs.Judge.States.{Cell, Written, FromSteps, as_element}
 use Rattle.pv_picks.specs.Judge.UnitRuns.{task_of}
-use Rattle.pv_picks.specs.Lazy.Patterns.{Shown, Took}
-use Rattle.pv_picks.specs.Lazy.Runs.{taken_in, ranged, Memory, Final, final, Source, Lazily, Unfit, Outcome, Taken, OneNumber, OneTurn, ForRange, at_end, showing, testing, lazy, Drawn, from_values, element_or, operation_or, value_read, value_used, no_memory}
+use Rattle.pv_picks.specs.Lazy.Runs.{taken_in, ranged, Memory, Final, final, Source, Lazily, Unfit, Outcome, Taken, OneNumber, OneTurn, at_end, testing, Drawn, from_values, element_or, operation_or, value_read, value_used, no_memory}
 use Rattle.judge_laws.specs.Related.{AreRelated}
 use Rattle.judge_laws.specs.Drawing.{RemembersPicks}
 use Rattle.judge_laws.proofs.Sources.{lazy_related}

@@ -3,10 +3,10 @@ use Rattle.std.proofs.Common.{◌≡◌, refl, ℕ, zero, suc, ℤ, pos, Bool, t
 use Rattle.std.specs.Prelude.{◌+ℤ◌}
 use Rattle.pv_ast.specs.declared.PvType.{PvType}
 use Rattle.pv_picks.specs.Formulas.Values.{width}
-use Rattle.pv_picks.specs.Judge.Settings.{Setting, Event, AtField, AtToken, AtLock, AtInstance, AtArray, AtArrayLength, ArrayPart, Known}
-use Rattle.pv_picks.specs.Judge.Repetitions.{shifted, test_at, test_from}
+use Rattle.pv_picks.specs.Judge.Settings.{Event, AtField, AtToken, AtLock, AtInstance, AtArray, AtArrayLength, ArrayPart, Known}
+use Rattle.pv_picks.specs.Judge.Repetitions.{shifted}
 use Rattle.pv_picks.specs.Lazy.Patterns.{Shown, positions_of}
-use Rattle.pv_picks.specs.Lazy.Runs.{Memory, LazyEnd, Source, Lazily, showing, quieted, remember_event, join_fact, part_events, reads_none, testing, is_due, test_once, test_within, test_facts, test_all, name_ends, lazy_event, first_shown, known_if, lazy_known, lazy}
+use Rattle.pv_picks.specs.Lazy.Runs.{Memory, LazyEnd, Source, Lazily, showing, quieted, remember_event, join_fact, part_events, reads_none, testing, is_due, test_once, test_within, test_facts, test_all, name_ends, lazy_event, first_shown, known_if, lazy}
 use Rattle.judge_laws.specs.Related.{AreRelated}
 use Rattle.pv_picks.proofs.Readers.{if_related}
 use Rattle.judge_laws.proofs.Taking.{test_at_related, test_from_related, otherwise}

@@ -1,7 +1,7 @@
 -- The judge and the drawn run.
 use Rattle.std.proofs.Common.{◌≡◌, ◌≢◌, refl, sym, subst, ◌∙◌, ◌⊎◌, inl, inr}
 use Rattle.pv_picks.specs.Judge.Runs.{End, Blocked}
-use Rattle.pv_picks.specs.Lazy.Runs.{LazyEnd, Ends, Unfit, Outcome, Final, lazy_run, drawn_run}
+use Rattle.pv_picks.specs.Lazy.Runs.{LazyEnd, Ends, Unfit, Outcome, Final, lazy_run}
 use Rattle.judge_laws.specs.Judging.{as_end, JudgesAsDrawn, BlocksWithoutPattern}
 use Rattle.judge_laws.proofs.Drawing.{runs_as_drawn}
 use Rattle.judge_laws.proofs.Judging.{judges_as_lazy}

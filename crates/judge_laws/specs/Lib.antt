@@ -4,4 +4,5 @@ pub mod Direct
 pub mod Statements
 pub mod Drawing
 pub mod OneGo
+pub mod Parts
 pub mod Judging

@@ -1,43 +1,16 @@
 -- A drawn run in one go: how far it comes, with what it shows and takes on the way.
-use Rattle.std.specs.Prelude.{◌≡◌, ℕ, ℤ, List, [], ◌++◌}
+use Rattle.std.specs.Prelude.{◌≡◌, ℕ, ℤ}
 use Rattle.pv_values.specs.declared.value.Value.{Value}
 use Rattle.pv_picks.specs.Plain.Core.{Expression, Formula, Program, Block}
 use Rattle.pv_picks.specs.Formulas.Evaluation.{Scene, evaluate}
 use Rattle.pv_picks.specs.Judge.States.{State, Bind, Cells}
-use Rattle.pv_picks.specs.Judge.Settings.{Setting, Next, no_frame, formula_reader}
+use Rattle.pv_picks.specs.Judge.Settings.{Next, no_frame, formula_reader}
 use Rattle.pv_picks.specs.Judge.Inhaling.{inhale}
 use Rattle.pv_picks.specs.Judge.Exhaling.{Giving, exhale}
 use Rattle.pv_picks.specs.Judge.Rows.{Site, access_reader}
 use Rattle.pv_picks.specs.Judge.Judging.{judge_block}
-use Rattle.pv_picks.specs.Lazy.Runs.{Memory, LazyEnd, final, Outcome, at_end, Lazily, lazy, Drawn, from_values}
-
--- goes on with a value from a state, or has ended
-pub data Came (A : Type 0) : Type 0 where
-  Goes : A → State → Memory → Drawn → Came A
-  Stopped : LazyEnd → Memory → Came A
-
-abbrev pub Ran : Type 0 → Type 0
-Ran A = Outcome (Came A)
-
-abbrev pub gone : {A : Type 0} → A → State → Memory → Drawn → Ran A
-gone a state memory drawn = at_end (Goes a state memory drawn)
-
--- the run in one go, on values and turns
-abbrev pub one_go : {A : Type 0} → (ℕ → ℤ) → (ℕ → ℕ) → Setting (Lazily Drawn (Came A))
-one_go values turns = lazy Stopped (from_values values turns)
-
--- what comes after
-abbrev pub after : {A E : Type 0} → (LazyEnd → Memory → E) → Came A → (A → State → Lazily Drawn E) → Outcome E
-after stop (Goes a state memory drawn) next = next a state memory drawn
-after stop (Stopped end memory) next = at_end (stop end memory)
-
-abbrev pub then_run : {A E : Type 0} → (LazyEnd → Memory → E) → Ran A → (A → State → Lazily Drawn E) → Outcome E
-then_run stop o next = record {
-  shows = o.shows ++ (after stop o.end next).shows;
-  values = o.values ++ (after stop o.end next).values;
-  picks = o.picks ++ (after stop o.end next).picks;
-  end = (after stop o.end next).end;
-}
+use Rattle.pv_picks.specs.Lazy.Runs.{Memory, LazyEnd, final, Lazily, lazy, Drawn, from_values}
+use Rattle.pv_picks.specs.Lazy.Parts.{Ran, gone, one_go, then_run}
 
 -- expressions, formulas and statements in one go
 abbrev pub evaluated : (ℕ → ℤ) → (ℕ → ℕ) → Scene → Expression → State → Memory → Drawn → Ran Value

@@ -4,6 +4,7 @@
 ghost use Rattle.judge_laws.specs.Judging.{JudgesAsLazy, JudgesAsDrawn, BlocksWithoutPattern};
 ghost use Rattle.judge_laws.specs.Drawing.{RunsAsDrawn, DrawnRunsAsLazy, RemembersPicks};
 ghost use Rattle.judge_laws.specs.OneGo.{StepsInOneGo};
+ghost use Rattle.judge_laws.specs.Parts.{RunsByParts};
 ghost use Rattle.judge_laws.specs.Statements.{InhalesDirectly, ExhalesDirectly, WasHeld, ReadsNoTrueTable};
 
 /// Inhaling a formula, and what comes next, is inhaling it in one go, and then what comes next.
@@ -60,4 +61,9 @@ pub fn remembers_picks()
 /// blocks of statements.
 pub fn steps_in_one_go()
     ensures { StepsInOneGo }
+{}
+
+/// A drawn run is its parts, each with what comes next: an expression is its parts and their operations, a formula its conjuncts.
+pub fn runs_by_parts()
+    ensures { RunsByParts }
 {}

@@ -5,6 +5,7 @@
 mod check;
 mod evidence;
 mod listing;
+pub mod plain;
 #[cfg(test)]
 mod tests;
 mod unit;
