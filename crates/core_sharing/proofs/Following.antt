@@ -9,6 +9,7 @@ use Rattle.pv_ast.specs.declared.PvType.{PvType}
 use Rattle.pv_ast.specs.declared.PvType.TheVariants.{Int, Truth, Object, IntArray, TruthArray, Null}
 use Rattle.pv_values.specs.declared.value.Value.{Value}
 use Rattle.pv_values.specs.declared.value.Value.TheVariants as value
+use Rattle.pv_ast.specs.declared.PvType.TheVariants.{Int}
 use Rattle.pv_picks.specs.declared.check.Check.{Check}
 use Rattle.pv_picks.specs.declared.evidence.Pick.{Pick}
 use Rattle.pv_picks.specs.declared.evidence.Pick.TheVariants.{Number, Turn, Steps}
@@ -331,15 +332,15 @@ module _ (maps : Maps) (table : List Entry) (Counts : Counting) (same : (end : E
 
   pick_at : (k l : ℤ → Next Judged) → ((z : ℤ) → Follows Counts (k z) (l z)) → (s : State) (picks : List Pick)
       → KnowsLengths s.lengths
-      → At s.lengths ((judging maps table).pick (λ z. k z s) picks)
-      (λ known. (judging maps table).pick (λ z. l z (with_lengths s known)))
+      → At s.lengths ((judging maps table).pick Int (λ z. k z s) picks)
+      (λ known. (judging maps table).pick Int (λ z. l z (with_lengths s known)))
   pick_at k l follows s [] knows = inl refl
   pick_at k l follows s (Turn n ∷ picks) knows = inl refl
   pick_at k l follows s (Steps map ∷ picks) knows = inl refl
   pick_at k l follows s (Number z ∷ picks) knows = kept ((follows z).from s picks knows)
     where
       kept : At s.lengths (k z s picks) (λ known. l z (with_lengths s known))
-          → At s.lengths (k z s picks) (λ known. (judging maps table).pick (λ i. l i (with_lengths s known)))
+          → At s.lengths (k z s picks) (λ known. (judging maps table).pick Int (λ i. l i (with_lengths s known)))
       kept (inl blocked) = inl blocked
       kept (inr r) = inr (record {
         lengths = r.lengths;
@@ -349,7 +350,7 @@ module _ (maps : Maps) (table : List Entry) (Counts : Counting) (same : (end : E
       })
 
   pub pick_follows : (k l : ℤ → Next Judged) → ((z : ℤ) → Follows Counts (k z) (l z))
-      → Follows Counts (λ s. (judging maps table).pick (λ z. k z s)) (λ s. (judging maps table).pick (λ z. l z s))
+      → Follows Counts (λ s. (judging maps table).pick Int (λ z. k z s)) (λ s. (judging maps table).pick Int (λ z. l z s))
   pick_follows k l follows = record { from = pick_at k l follows }
 
   -- Where the one run alone looks
@@ -457,12 +458,12 @@ module _ (maps : Maps) (table : List Entry) (Counts : Counting) (same : (end : E
 
   pick_ahead_at : (k : ℤ → Next Judged) (other : Next Judged) → ((z : ℤ) → Follows Counts (k z) other) → (s : State)
       (picks : List Pick) → KnowsLengths s.lengths
-      → At s.lengths ((judging maps table).pick (λ z. k z s) picks) (λ known. other (with_lengths s known))
+      → At s.lengths ((judging maps table).pick Int (λ z. k z s) picks) (λ known. other (with_lengths s known))
   pick_ahead_at k other follows s [] knows = inl refl
   pick_ahead_at k other follows s (Turn n ∷ picks) knows = inl refl
   pick_ahead_at k other follows s (Steps map ∷ picks) knows = inl refl
   pick_ahead_at k other follows s (Number z ∷ picks) knows = (follows z).from s picks knows
 
   pub pick_ahead : (k : ℤ → Next Judged) (other : Next Judged) → ((z : ℤ) → Follows Counts (k z) other)
-      → Follows Counts (λ s. (judging maps table).pick (λ z. k z s)) other
+      → Follows Counts (λ s. (judging maps table).pick Int (λ z. k z s)) other
   pick_ahead k other follows = record { from = pick_ahead_at k other follows }

@@ -10,6 +10,7 @@ use Rattle.pv_ast.specs.declared.Token.TheVariants as token
 use Rattle.pv_values.specs.declared.value.Value.{Value}
 use Rattle.pv_values.specs.declared.value.Value.TheVariants as value
 use Rattle.pv_fraction.specs.Amounts.{whole}
+use Rattle.pv_ast.specs.declared.PvType.TheVariants.{Int}
 use Rattle.pv_picks.specs.declared.evidence.Pick.{Pick}
 use Rattle.pv_picks.specs.declared.evidence.Entry.{Entry}
 use Rattle.pv_picks.specs.Formulas.Values.{within}
@@ -227,9 +228,9 @@ module _ (table : List Entry) (before before' : Cells) where
       )) meets
 
   pub pick_meets : (f g : ℤ → Run) → ((z : ℤ) → Meeting (f z) (g z))
-      → Meeting (λ m st. (judging m table).pick (λ z. f z m st)) (λ m st. (judging m table).pick (λ z. g z m st))
+      → Meeting (λ m st. (judging m table).pick Int (λ z. f z m st)) (λ m st. (judging m table).pick Int (λ z. g z m st))
   pick_meets f g h =
-      pick_first table before before' f (λ m st. (judging m table).pick (λ z. g z m st))
+      pick_first table before before' f (λ m st. (judging m table).pick Int (λ z. g z m st))
       (λ z. pick_then table before before' (f z) g z (h z))
 
   met_meets : (type : PvType) (resource : Resource) (k : ℕ) (next next' : Run) → Meeting next next' → (z : ℤ)

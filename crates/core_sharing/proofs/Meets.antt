@@ -3,6 +3,7 @@ use Rattle.std.proofs.Common.{◌≡◌, ◌⊎◌, inl, inr, ℕ, zero, suc, �
 use Rattle.std.specs.Prelude.{if◌then◌else◌}
 use Rattle.pv_base.specs.declared.Span.{Span}
 use Rattle.pv_values.specs.declared.value.Value.{Value}
+use Rattle.pv_ast.specs.declared.PvType.TheVariants.{Int}
 use Rattle.pv_picks.specs.declared.check.Check.{Check}
 use Rattle.pv_picks.specs.declared.check.Check.TheVariants as check
 use Rattle.pv_picks.specs.declared.evidence.Pick.{Pick}
@@ -183,11 +184,11 @@ module _ (table : List Entry) (before before' : Cells) where
 
   -- whatever the one picks
   pub pick_first : (f : ℤ → Run) (other : Run) → ((z : ℤ) → Meet (f z) other)
-      → Meet (λ m st. (judging m table).pick (λ z. f z m st)) other
+      → Meet (λ m st. (judging m table).pick Int (λ z. f z m st)) other
   pick_first f other meets = record { from = by }
     where
       by : (taken : Maps) (s : State) (picks : List Pick) → KnowsLengths s.lengths
-          → Met taken s (end_on (λ m st. (judging m table).pick (λ z. f z m st)) taken s picks) other
+          → Met taken s (end_on (λ m st. (judging m table).pick Int (λ z. f z m st)) taken s picks) other
       by taken s [] knows = inl refl
       by taken s (Turn n ∷ picks) knows = inl refl
       by taken s (Steps map ∷ picks) knows = inl refl
@@ -197,11 +198,11 @@ module _ (table : List Entry) (before before' : Cells) where
 
   -- the other picks this
   pub pick_then : (one : Run) (g : ℤ → Run) (z : ℤ) → Meet one (g z)
-      → Meet one (λ m st. (judging m table).pick (λ z. g z m st))
+      → Meet one (λ m st. (judging m table).pick Int (λ z. g z m st))
   pick_then one g z meets = record { from = λ taken s picks knows. by taken s picks (meets.from taken s picks knows) }
     where
       by : (taken : Maps) (s : State) (picks : List Pick) → Met taken s (end_on one taken s picks) (g z)
-          → Met taken s (end_on one taken s picks) (λ m st. (judging m table).pick (λ z. g z m st))
+          → Met taken s (end_on one taken s picks) (λ m st. (judging m table).pick Int (λ z. g z m st))
       by taken s picks (inl blocked) = inl blocked
       by taken s picks (inr r) = inr (record {
         lengths = r.lengths;

@@ -7,6 +7,7 @@ use Rattle.pv_ast.specs.declared.PvType.{PvType}
 use Rattle.pv_ast.specs.declared.PvType.TheVariants.{Int, Truth, Object, IntArray, TruthArray, Null}
 use Rattle.pv_values.specs.declared.value.Value.{Value}
 use Rattle.pv_fraction.specs.Amounts.{whole}
+use Rattle.pv_ast.specs.declared.PvType.TheVariants.{Int}
 use Rattle.pv_picks.specs.declared.evidence.Pick.{Pick}
 use Rattle.pv_picks.specs.declared.evidence.Pick.TheVariants.{Number, Turn, Steps}
 use Rattle.pv_picks.specs.declared.evidence.StepPair.{StepPair}
@@ -27,7 +28,7 @@ use Rattle.core_sharing.proofs.Ranges.{ranged, range_reached}
 -- an element that is picked
 pick_element : (m : Maps) (table : List Entry) (type : PvType) (next : Value → Next Judged) → IsOfElements type
     → ◌≡◌ {A = Next Judged} (pick_value (judging m table) type next)
-    (λ st. (judging m table).pick (λ z. next (as_element type z) st))
+    (λ st. (judging m table).pick Int (λ z. next (as_element type z) st))
 pick_element m table Int next is = refl
 pick_element m table Truth next is = refl
 pick_element m table (Object class) next is = absurd is
@@ -136,7 +137,7 @@ module _ (type : PvType) (array : ℕ) (low high k : ℤ) (amount : ℕ) (c : lo
       where
         new : (taken : Maps) (s : State) (picks : List Pick) → KnowsLengths s.lengths → amount_of s element ≡ 0
             → Met table before before' taken s
-            ((judging (maps_from s.steps taken picks) table).pick
+            ((judging (maps_from s.steps taken picks) table).pick Int
             (λ z. next (maps_from s.steps taken picks) (with_cell s element amount (as_element type z))) picks) (step next')
         new taken s [] knows is = inl refl
         new taken s (Turn n ∷ picks) knows is = inl refl

@@ -88,11 +88,11 @@ module _ (maps : Maps) (table : List Entry) (N : Array → List ℤ) where
   way_good known Q ps y o (inl w) f = subst (λ (z : Final). Good known z) (sym w.1.1.1) (f w.0 w.1.0 w.1.1.0)
   way_good known Q ps y o (inr b) f = λ l. absurd (l.0 b)
 
-  pick_holds : (f : ℤ → Pair) → ((z : ℤ) → Holds (f z)) → Holds (T.pick f)
-  pick_holds f h m [] r l = absurd (l.1 refl)
-  pick_holds f h m (Number z ∷ ps) r l = h z (taken_in (OneNumber z) m) ps r l
-  pick_holds f h m (Turn n ∷ ps) r l = absurd (l.1 refl)
-  pick_holds f h m (Steps x ∷ ps) r l = absurd (l.1 refl)
+  pick_holds : (ty : PvType) (f : ℤ → Pair) → ((z : ℤ) → Holds (f z)) → Holds (T.pick ty f)
+  pick_holds ty f h m [] r l = absurd (l.1 refl)
+  pick_holds ty f h m (Number z ∷ ps) r l = h z (taken_in (OneNumber z) m) ps r l
+  pick_holds ty f h m (Turn n ∷ ps) r l = absurd (l.1 refl)
+  pick_holds ty f h m (Steps x ∷ ps) r l = absurd (l.1 refl)
 
   by_turn : (b : Bool) (known : List Known) (m : Memory) (y : Outcome Final) → Good known y.end
       → Good known (if b then y else at_end (final Unfit m)).end
@@ -125,16 +125,16 @@ module _ (maps : Maps) (table : List Entry) (N : Array → List ℤ) where
       h (record m { uses = m.uses ++ record { used = (o, b, c); value = value_of_operation table o b c } ∷ [] }) ps
       (r.0, fits_more table m.uses _ r.1 refl)
 
-  element_holds : (o : Option ℤ) (n : ℕ) (i : ℤ) (f : ℤ → Pair) → Holds (f (maps n i)) → (m : Memory) (ps : List Pick) → Fit m
-      → ((z : ℤ) → o ≡ Some z → maps n i ≡ z) → Good m.known (element_or final S o n i (λ z. (f z).0) m ps).end
-  element_holds (Some z) n i f h m ps r e = subst (λ (w : ℤ). Good m.known ((f w).0 m ps).end) (e z refl) (h m ps r)
-  element_holds None n i f h m ps r e =
+  element_holds : (o : Option ℤ) (ty : PvType) (n : ℕ) (i : ℤ) (f : ℤ → Pair) → Holds (f (maps n i)) → (m : Memory) (ps : List Pick) → Fit m
+      → ((z : ℤ) → o ≡ Some z → maps n i ≡ z) → Good m.known (element_or final S o ty n i (λ z. (f z).0) m ps).end
+  element_holds (Some z) ty n i f h m ps r e = subst (λ (w : ℤ). Good m.known ((f w).0 m ps).end) (e z refl) (h m ps r)
+  element_holds None ty n i f h m ps r e =
       h (record m { reads = record { number = n; index = i; value = maps n i } ∷ m.reads }) ps ((refl, r.0), r.1)
 
   reading_holds : (c : Cell) (f : Value → Pair) → Unit {0} → Holds (f (content maps c)) → Holds (T.reading c f)
   reading_holds (Written v) f g h m ps r = h m ps r
   reading_holds (FromSteps t n i) f g h m ps r =
-      element_holds (value_read m.reads n i) n i (λ z. f (as_element t z)) h m ps r (λ z e. read_right maps m.reads n i z r.0 e)
+      element_holds (value_read m.reads n i) t n i (λ z. f (as_element t z)) h m ps r (λ z e. read_right maps m.reads n i z r.0 e)
 
   noticing_holds : (e : Event) (x : Pair) → (even.Named maps N e → Holds x) → Holds (T.noticing e x)
   noticing_holds (AtField c o n) x h m ps r = h tt (record m { events = with_event (AtField c o n) m.events }) ps r

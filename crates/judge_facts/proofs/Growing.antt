@@ -60,12 +60,12 @@ module _ (maps : Maps) (table : List Entry) where
   other_grows e y g m ps r l = let u : Memory = record m { events = with_event e m.events } in
       grew_grown m u _ (event_grew m e) (g u ps r l)
 
-  pub pick_grows : (f : ℤ → Lazy) → ((z : ℤ) → Grows (f z)) → Grows (L.pick f)
-  pick_grows f g m [] r l = absurd (l.1 refl)
-  pick_grows f g m (Number z ∷ ps) r l = let h =
+  pub pick_grows : (ty : PvType) (f : ℤ → Lazy) → ((z : ℤ) → Grows (f z)) → Grows (L.pick ty f)
+  pick_grows ty f g m [] r l = absurd (l.1 refl)
+  pick_grows ty f g m (Number z ∷ ps) r l = let h =
       g z (taken_in (OneNumber z) m) ps r l in record { names = h.names; ranges = h.ranges; known = h.known }
-  pick_grows f g m (Turn n ∷ ps) r l = absurd (l.1 refl)
-  pick_grows f g m (Steps x ∷ ps) r l = absurd (l.1 refl)
+  pick_grows ty f g m (Turn n ∷ ps) r l = absurd (l.1 refl)
+  pick_grows ty f g m (Steps x ∷ ps) r l = absurd (l.1 refl)
 
   by_turn : (b : Bool) (m : Memory) (y : Outcome Final) → (Live y.end → Grown m y.end)
       → Live (if b then y else at_end (final Unfit m)).end → Grown m (if b then y else at_end (final Unfit m)).end
@@ -92,9 +92,9 @@ module _ (maps : Maps) (table : List Entry) where
         known = h.known;
       }
 
-  pub element_grows : (o : Option ℤ) (n : ℕ) (i : ℤ) (f : ℤ → Lazy) → ((z : ℤ) → Grows (f z)) → Grows (element_or final S o n i f)
-  element_grows (Some z) n i f g m ps r l = g z m ps r l
-  element_grows None n i f g m ps r l =
+  pub element_grows : (o : Option ℤ) (ty : PvType) (n : ℕ) (i : ℤ) (f : ℤ → Lazy) → ((z : ℤ) → Grows (f z)) → Grows (element_or final S o ty n i f)
+  element_grows (Some z) ty n i f g m ps r l = g z m ps r l
+  element_grows None ty n i f g m ps r l =
       let h = g (maps n i) (record m { reads = record { number = n; index = i; value = maps n i } ∷ m.reads }) ps
       ((refl, r.0), r.1) l in record { names = h.names; ranges = h.ranges; known = h.known }
 
@@ -110,7 +110,7 @@ module _ (maps : Maps) (table : List Entry) where
   pub reading_grows : (c : Cell) (f : Value → Lazy) → ((v : Value) → Grows (f v)) → Grows (L.reading c f)
   reading_grows (Written v) f g m ps r l = g v m ps r l
   reading_grows (FromSteps t n i) f g m ps r l =
-      element_grows (value_read m.reads n i) n i (λ z. f (as_element t z)) (λ z. g (as_element t z)) m ps r l
+      element_grows (value_read m.reads n i) t n i (λ z. f (as_element t z)) (λ z. g (as_element t z)) m ps r l
 
   pub all_grow : (y : Lazy) → Grows y → Grows (test_all final S y)
   all_grow y g m ps r l = way_grown m _ ps y _ (ways.all_way maps table y m ps r) (λ n q. alike_grew m n q.0) g l

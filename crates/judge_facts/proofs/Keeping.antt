@@ -88,7 +88,7 @@ pub record IsKept {A : Type 0} (maps : Maps) (table : List Entry) (S : Setting A
   pub blocked : (c : ℕ) → P c S.blocked
   pub failed : (n : ℕ) → (check : Check) (span : Span) → P n (S.failed check span)
   pub unfit : (c : ℕ) → P c S.unfit
-  pub pick : (n : ℕ) → (f : ℤ → A) → ((z : ℤ) → P n (f z)) → P n (S.pick f)
+  pub pick : (n : ℕ) (t : PvType) (f : ℤ → A) → ((z : ℤ) → P n (f z)) → P n (S.pick t f)
   pub turn : (n : ℕ) → (f : ℕ → A) → ((t : ℕ) → P n (f t)) → P n (S.turn f)
   pub steps : (n : ℕ) (t : PvType) (a : ℕ) (x : A) → (V.ranged n t a → P (suc n) x) → P n (S.steps n t a x)
   pub using : (n : ℕ) → (o : Operation) (a b : ℤ) (f : ℤ → A) → P n (f (value_of_operation table o a b)) → P n (S.using o a b f)
@@ -167,7 +167,7 @@ module _ {A : Type 0} {maps : Maps} {table : List Entry} {S : Setting A} {P : �
         → KeptJ (known_or_picked S o t a f)
     known_or_picked_kept (Some n) t a f h s j = h n s j
     known_or_picked_kept None t a f h s j =
-        r.pick _ _ (λ z.
+        r.pick _ _ _ (λ z.
         r.comparing _ _ _ _ (if_kept (P _) (int_le (pos 0) z) _ _ (h z _ (js s (with_length s t a z) refl refl j)) (r.blocked _)))
 
     pub look_at_length_kept : (t : PvType) (a : ℕ) (f : ℤ → Next A) → ((z : ℤ) → KeptJ (f z)) → KeptJ (look_at_length S t a f)
@@ -246,11 +246,11 @@ module _ {A : Type 0} {maps : Maps} {table : List Entry} {S : Setting A} {P : �
   met_as_kept t (negsuc n) f h s i = (r.unfit _)
 
   pub pick_value_kept : (t : PvType) (f : Value → Next A) → ((v : Value) → Keeps (f v)) → Keeps (pick_value S t f)
-  pick_value_kept type.Int f h s i = r.pick _ _ (λ z. h _ s i)
-  pick_value_kept type.Truth f h s i = r.pick _ _ (λ z. h _ s i)
-  pick_value_kept (type.Object d) f h s i = r.pick _ _ (λ z. met_as_kept (type.Object d) z f h s i)
-  pick_value_kept type.IntArray f h s i = r.pick _ _ (λ z. met_as_kept type.IntArray z f h s i)
-  pick_value_kept type.TruthArray f h s i = r.pick _ _ (λ z. met_as_kept type.TruthArray z f h s i)
+  pick_value_kept type.Int f h s i = r.pick _ _ _ (λ z. h _ s i)
+  pick_value_kept type.Truth f h s i = r.pick _ _ _ (λ z. h _ s i)
+  pick_value_kept (type.Object d) f h s i = r.pick _ _ _ (λ z. met_as_kept (type.Object d) z f h s i)
+  pick_value_kept type.IntArray f h s i = r.pick _ _ _ (λ z. met_as_kept type.IntArray z f h s i)
+  pick_value_kept type.TruthArray f h s i = r.pick _ _ _ (λ z. met_as_kept type.TruthArray z f h s i)
   pick_value_kept type.Null f h s i = (r.blocked _)
 
   pub gain_on_kept : (n : ℕ) (t : PvType) (x : Resource) (a : ℕ) → Placed x → (f : Next A) → Keeps f → Keeps (gain_on S n t x a f)

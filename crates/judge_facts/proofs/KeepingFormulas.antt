@@ -66,7 +66,7 @@ module _ {A : Type 0} {maps : Maps} {table : List Entry} {S : Setting A} {P : �
       → Keeps (inhale_repeated S b n e x f)
   repeated_kept b o n e sh x f h s i =
       let known = known_kept b o n e sh x f h in
-      r.pick _ _ (λ m. keeping.within_kept kept I c.same x.low x.high m _ _ (known s i)
+      r.pick _ _ _ (λ m. keeping.within_kept kept I c.same x.low x.high m _ _ (known s i)
       (mark_kept cells_of c.cells b o n e _ _
       (in_value (bind_at b n m) o e _
       (λ v t j. r.deciding _ _ _ (if_kept (P _) (truth_in v) _ _ (known t j) (r.blocked _)))) s i))
@@ -132,7 +132,7 @@ module _ {A : Type 0} {maps : Maps} {table : List Entry} {S : Setting A} {P : �
 
   out_repeated : (q : Giving) → Out q → (n : Name) (e : Expression) (p : Span) (x : Range) (f : Next A) → Keeps f
       → Keeps (exhale_repeated S q n e p x f)
-  out_repeated q g n e p x f h s i = r.pick _ _ (λ m. keeping.within_kept kept I c.same x.low x.high m _ _ (h s i)
+  out_repeated q g n e p x f h s i = r.pick _ _ _ (λ m. keeping.within_kept kept I c.same x.low x.high m _ _ (h s i)
       (mark_kept (λ t. q.before) (λ t j. g.0) q.bind g.1 n e _ _
       (out_value (exhaling.from_at q n m) g e _ (λ v later j. holds_kept q p v _ (h later j))) s i))
 

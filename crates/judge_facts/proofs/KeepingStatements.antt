@@ -273,7 +273,7 @@ module _ {A : Type 0} {maps : Maps} {table : List Entry} {S : Setting A} {P : �
       (pick_variables_kept ps _ (take_kept F g _ (when_kept false e f h))))
 
   position_kept : (l u : ℤ) (f : ℤ → Next A) → ((z : ℤ) → Keeps (f z)) → Keeps (pick_position S l u f)
-  position_kept l u f h s i = r.pick _ _ (λ z. keeping.within_kept kept I c.same l u z _ _ (r.blocked _) (h z s i))
+  position_kept l u f h s i = r.pick _ _ _ (λ z. keeping.within_kept kept I c.same l u z _ _ (r.blocked _) (h z s i))
 
   at_some_kept : (n : Name) (l u : ℤ) (f : Next A) → Keeps f → Keeps (at_some S n l u f)
   at_some_kept n l u f h = position_kept l u _ (λ z s i. h _ (c.same s _ refl refl i))

@@ -70,11 +70,11 @@ module _ (maps : Maps) (table : List Entry) where
   by_turn true known m x y h = h
   by_turn false known m x y h = λ l. absurd (l.1 refl)
 
-  picks_step : (f : ℤ → Judged) (g : ℤ → Lazy) → ((z : ℤ) → Steps' (f z) (g z)) → Steps' (J.pick f) (L.pick g)
-  picks_step f g h m [] r t = λ l. absurd (l.1 refl)
-  picks_step f g h m (Number z ∷ ps) r t = h z (taken_in (OneNumber z) m) ps r t
-  picks_step f g h m (Turn n ∷ ps) r t = λ l. absurd (l.1 refl)
-  picks_step f g h m (Steps x ∷ ps) r t = λ l. absurd (l.1 refl)
+  picks_step : (ty : PvType) (f : ℤ → Judged) (g : ℤ → Lazy) → ((z : ℤ) → Steps' (f z) (g z)) → Steps' (J.pick ty f) (L.pick ty g)
+  picks_step ty f g h m [] r t = λ l. absurd (l.1 refl)
+  picks_step ty f g h m (Number z ∷ ps) r t = h z (taken_in (OneNumber z) m) ps r t
+  picks_step ty f g h m (Turn n ∷ ps) r t = λ l. absurd (l.1 refl)
+  picks_step ty f g h m (Steps x ∷ ps) r t = λ l. absurd (l.1 refl)
 
   turns_step : (f : ℕ → Judged) (g : ℕ → Lazy) → ((n : ℕ) → Steps' (f n) (g n)) → Steps' (J.turn f) (L.turn g)
   turns_step f g h m [] r t = λ l. absurd (l.1 refl)
@@ -89,12 +89,12 @@ module _ (maps : Maps) (table : List Entry) where
   steps_step n t a x y h m (Turn u ∷ ps) r q = λ l. absurd (l.1 refl)
   steps_step n t a x y h m (Steps z ∷ ps) r q = h (ranged n t a m) ps r q
 
-  element_steps : (o : Option ℤ) (n : ℕ) (i : ℤ) (f : ℤ → Judged) (g : ℤ → Lazy) → ((z : ℤ) → Steps' (f z) (g z))
+  element_steps : (o : Option ℤ) (ty : PvType) (n : ℕ) (i : ℤ) (f : ℤ → Judged) (g : ℤ → Lazy) → ((z : ℤ) → Steps' (f z) (g z))
       → (m : Memory) (ps : List Pick) → Fit m → Sound m
-      → ((z : ℤ) → o ≡ Some z → maps n i ≡ z) → Comes m.known (f (maps n i) ps) (element_or final S o n i g m ps).end
-  element_steps (Some z) n i f g h m ps r t e =
+      → ((z : ℤ) → o ≡ Some z → maps n i ≡ z) → Comes m.known (f (maps n i) ps) (element_or final S o ty n i g m ps).end
+  element_steps (Some z) ty n i f g h m ps r t e =
       subst (λ (w : ℤ). Comes m.known (f w ps) (g z m ps).end) (sym (e z refl)) (h z m ps r t)
-  element_steps None n i f g h m ps r t e =
+  element_steps None ty n i f g h m ps r t e =
       h (maps n i) (record m { reads = record { number = n; index = i; value = maps n i } ∷ m.reads }) ps ((refl, r.0), r.1) t
 
   operation_steps : (x : Option ℤ) (o : Operation) (b c : ℤ) (f : ℤ → Judged) (g : ℤ → Lazy) → ((z : ℤ) → Steps' (f z) (g z))
@@ -112,7 +112,7 @@ module _ (maps : Maps) (table : List Entry) where
       → Steps' (J.reading c f) (L.reading c g)
   reading_steps (Written v) f g h m ps r t = h v m ps r t
   reading_steps (FromSteps type n i) f g h m ps r t =
-      element_steps (value_read m.reads n i) n i (λ z. f (as_element type z)) (λ z. g (as_element type z))
+      element_steps (value_read m.reads n i) type n i (λ z. f (as_element type z)) (λ z. g (as_element type z))
       (λ z. h (as_element type z)) m ps r t (λ z e. read_right maps m.reads n i z r.0 e)
 
   other_steps : (e : Event) → NamesNothing e → (x : Judged) (y : Lazy) → Steps' x y → Steps' x (remember_event e y)

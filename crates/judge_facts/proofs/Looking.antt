@@ -127,7 +127,7 @@ module _ {A : Type 0} {maps : Maps} {table : List Entry} {S : Setting A} {P : �
   picked_at : (x : Option ℤ) (t : PvType) (a : ℕ) (f : ℤ → Next A) (s : State) → Since s → s.lengths t a ≡ x
       → ((n : ℤ) → Goes s (λ u. u.lengths t a ≡ Some n) (f n)) → P s.steps (known_or_picked S x t a f s)
   picked_at (Some n) t a f s j e h = h n s j (later_same s) (λ u l. l t a n e)
-  picked_at None t a f s j e h = r.pick _ _ (λ z. r.comparing _ _ _ _ (if_kept (P _) (int_le (pos 0) z) _ _
+  picked_at None t a f s j e h = r.pick _ _ _ (λ z. r.comparing _ _ _ _ (if_kept (P _) (int_le (pos 0) z) _ _
       (h z (with_length s t a z) (longer s t a z j) (length_later s t a z e) (λ u l. l t a z (length_there s t a z)))
       (r.blocked _)))
 

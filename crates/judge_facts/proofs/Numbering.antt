@@ -84,11 +84,11 @@ module _ (maps : Maps) (table : List Entry) where
       (h w.0 ps w.1.0 (ap (λ (xs : List RangeOf). length xs) same ∙ e) (subst Numbered (sym same) n) (subst Live w.1.1.1 l))
   way_counts c m Q ps y o (inr b) f h e n l = absurd (l.0 b)
 
-  pick_counts : (c : ℕ) (f : ℤ → Lazy) → ((z : ℤ) → Counts c (f z)) → Counts c (L.pick f)
-  pick_counts c f h m [] r e n l = absurd (l.1 refl)
-  pick_counts c f h m (Number z ∷ ps) r e n l = h z (taken_in (OneNumber z) m) ps r e n l
-  pick_counts c f h m (Turn t ∷ ps) r e n l = absurd (l.1 refl)
-  pick_counts c f h m (Steps x ∷ ps) r e n l = absurd (l.1 refl)
+  pick_counts : (c : ℕ) (ty : PvType) (f : ℤ → Lazy) → ((z : ℤ) → Counts c (f z)) → Counts c (L.pick ty f)
+  pick_counts c ty f h m [] r e n l = absurd (l.1 refl)
+  pick_counts c ty f h m (Number z ∷ ps) r e n l = h z (taken_in (OneNumber z) m) ps r e n l
+  pick_counts c ty f h m (Turn t ∷ ps) r e n l = absurd (l.1 refl)
+  pick_counts c ty f h m (Steps x ∷ ps) r e n l = absurd (l.1 refl)
 
   by_turn : (b : Bool) (m : Memory) (y : Outcome Final) → (Live y.end → Numbered y.end.ranges)
       → Live (if b then y else at_end (final Unfit m)).end → Numbered (if b then y else at_end (final Unfit m)).end.ranges
@@ -122,18 +122,18 @@ module _ (maps : Maps) (table : List Entry) where
       h (record m { uses = m.uses ++ record { used = (o, a, b); value = value_of_operation table o a b } ∷ [] }) ps
       (r.0, fits_more table m.uses _ r.1 refl) e n l
 
-  element_counts : (c : ℕ) (o : Option ℤ) (k : ℕ) (i : ℤ) (f : ℤ → Lazy) → Counts c (f (maps k i)) → (m : Memory) (ps : List Pick)
+  element_counts : (c : ℕ) (o : Option ℤ) (ty : PvType) (k : ℕ) (i : ℤ) (f : ℤ → Lazy) → Counts c (f (maps k i)) → (m : Memory) (ps : List Pick)
       → Fit m → ((z : ℤ) → o ≡ Some z → maps k i ≡ z) → length m.ranges ≡ c → Numbered m.ranges
-      → Live (element_or final S o k i f m ps).end → Numbered (element_or final S o k i f m ps).end.ranges
-  element_counts c (Some z) k i f h m ps r g e n l =
+      → Live (element_or final S o ty k i f m ps).end → Numbered (element_or final S o ty k i f m ps).end.ranges
+  element_counts c (Some z) ty k i f h m ps r g e n l =
       subst (λ (w : ℤ). Live (f w m ps).end → Numbered (f w m ps).end.ranges) (g z refl) (λ j. h m ps r e n j) l
-  element_counts c None k i f h m ps r g e n l =
+  element_counts c None ty k i f h m ps r g e n l =
       h (record m { reads = record { number = k; index = i; value = maps k i } ∷ m.reads }) ps ((refl, r.0), r.1) e n l
 
   reading_counts : (c : ℕ) (x : Cell) (f : Value → Lazy) → Unit {0} → Counts c (f (content maps x)) → Counts c (L.reading x f)
   reading_counts c (Written v) f u h m ps r e n l = h m ps r e n l
   reading_counts c (FromSteps t k i) f u h m ps r e n l =
-      element_counts c (value_read m.reads k i) k i (λ z. f (as_element t z)) h m ps r
+      element_counts c (value_read m.reads k i) t k i (λ z. f (as_element t z)) h m ps r
       (λ z g. read_right maps m.reads k i z r.0 g) e n l
 
   noticing_counts : (c : ℕ) (e : Event) (y : Lazy) → (Unit {0} → Counts c y) → Counts c (lazy_event final S e y)

@@ -3,6 +3,7 @@ use Rattle.std.proofs.Common.{◌≡◌, ℕ, ℤ, if◌then◌else◌, Option, 
 use Rattle.std.specs.Prelude.{nat_lt}
 use Rattle.pv_ast.specs.declared.PvType.{PvType}
 use Rattle.pv_values.specs.declared.value.Value.{Value}
+use Rattle.pv_ast.specs.declared.PvType.TheVariants.{Int}
 use Rattle.pv_picks.specs.declared.evidence.Pick.{Pick}
 use Rattle.pv_picks.specs.declared.evidence.Pick.TheVariants.{Number, Turn, Steps}
 use Rattle.pv_picks.specs.declared.evidence.Entry.{Entry}
@@ -40,7 +41,7 @@ module _ (maps : Maps) (table : List Entry) where
     failed = λ check span.
         ((lazy final S).failed check span, λ m ps r l. record { names = λ a z i. i; ranges = λ x i. i; known = λ k i. i });
     unfit = ((lazy final S).unfit, λ m ps r l. absurd (l.1 refl));
-    pick = λ f. (L.pick (λ z. (f z).0), growing.pick_grows maps table (λ z. (f z).0) (λ z. (f z).1));
+    pick = λ ty f. (L.pick ty (λ z. (f z).0), growing.pick_grows maps table ty (λ z. (f z).0) (λ z. (f z).1));
     turn = λ f. (L.turn (λ n. (f n).0), growing.turn_grows maps table (λ n. (f n).0) (λ n. (f n).1));
     steps = λ n t a x. (L.steps n t a x.0, growing.steps_grow maps table n t a x.0 x.1);
     using = λ o b c f. (
@@ -60,11 +61,11 @@ module _ (maps : Maps) (table : List Entry) where
   abbrev Same : Lazy → Lazy → Type 0
   Same x y = (m : Memory) (ps : List Pick) → x m ps ≡ y m ps
 
-  pick_same : (f g : ℤ → Lazy) → ((z : ℤ) → Same (f z) (g z)) → Same (L.pick f) (L.pick g)
-  pick_same f g h m [] = refl
-  pick_same f g h m (Number z ∷ ps) = ap (λ o. picking (OneNumber z) (taking z o)) (h z (taken_in (OneNumber z) m) ps)
-  pick_same f g h m (Turn n ∷ ps) = refl
-  pick_same f g h m (Steps x ∷ ps) = refl
+  pick_same : (ty : PvType) (f g : ℤ → Lazy) → ((z : ℤ) → Same (f z) (g z)) → Same (L.pick ty f) (L.pick ty g)
+  pick_same ty f g h m [] = refl
+  pick_same ty f g h m (Number z ∷ ps) = ap (λ o. picking (OneNumber z) (taking ty z o)) (h z (taken_in (OneNumber z) m) ps)
+  pick_same ty f g h m (Turn n ∷ ps) = refl
+  pick_same ty f g h m (Steps x ∷ ps) = refl
 
   turn_same : (f g : ℕ → Lazy) → ((n : ℕ) → Same (f n) (g n)) → Same (L.turn f) (L.turn g)
   turn_same f g h m [] = refl
@@ -81,24 +82,24 @@ module _ (maps : Maps) (table : List Entry) where
   steps_same n t a x y h m (Turn u ∷ ps) = refl
   steps_same n t a x y h m (Steps z ∷ ps) = ap (picking ForRange) (h (ranged n t a m) ps)
 
-  element_same : (o : Option ℤ) (n : ℕ) (i : ℤ) (f g : ℤ → Lazy) → ((z : ℤ) → Same (f z) (g z))
-      → Same (element_or final S o n i f) (element_or final S o n i g)
-  element_same (Some z) n i f g h m ps = h z m ps
-  element_same None n i f g h m ps =
-      ap (taking (maps n i)) (h (maps n i) (record m { reads = record { number = n; index = i; value = maps n i } ∷ m.reads }) ps)
+  element_same : (o : Option ℤ) (ty : PvType) (n : ℕ) (i : ℤ) (f g : ℤ → Lazy) → ((z : ℤ) → Same (f z) (g z))
+      → Same (element_or final S o ty n i f) (element_or final S o ty n i g)
+  element_same (Some z) ty n i f g h m ps = h z m ps
+  element_same None ty n i f g h m ps =
+      ap (taking ty (maps n i)) (h (maps n i) (record m { reads = record { number = n; index = i; value = maps n i } ∷ m.reads }) ps)
 
   operation_same : (x : Option ℤ) (o : Operation) (b c : ℤ) (f g : ℤ → Lazy) → ((z : ℤ) → Same (f z) (g z))
       → Same (operation_or final S x o b c f) (operation_or final S x o b c g)
   operation_same (Some z) o b c f g h m ps = h z m ps
   operation_same None o b c f g h m ps =
-      ap (taking (value_of_operation table o b c))
+      ap (taking Int (value_of_operation table o b c))
       (h (value_of_operation table o b c)
       (record m { uses = m.uses ++ record { used = (o, b, c); value = value_of_operation table o b c } ∷ [] }) ps)
 
   reading_same : (c : Cell) (f g : Value → Lazy) → ((v : Value) → Same (f v) (g v)) → Same (L.reading c f) (L.reading c g)
   reading_same (Written v) f g h m ps = h v m ps
   reading_same (FromSteps t n i) f g h m ps =
-      element_same (value_read m.reads n i) n i (λ z. f (as_element t z)) (λ z. g (as_element t z)) (λ z. h (as_element t z)) m ps
+      element_same (value_read m.reads n i) t n i (λ z. f (as_element t z)) (λ z. g (as_element t z)) (λ z. h (as_element t z)) m ps
 
   tests_same : AreRelated L L Same
   tests_same = record {
@@ -129,7 +130,7 @@ module _ (maps : Maps) (table : List Entry) where
     blocked = lazies_same.blocked;
     failed = lazies_same.failed;
     unfit = lazies_same.unfit;
-    pick = λ f g h. lazies_same.pick (λ z. (f z).0) g h;
+    pick = λ ty f g h. lazies_same.pick ty (λ z. (f z).0) g h;
     turn = λ f g h. lazies_same.turn (λ n. (f n).0) g h;
     steps = λ n t a x y h. lazies_same.steps n t a x.0 y h;
     using = λ o b c f g h. lazies_same.using o b c (λ z. (f z).0) g h;

@@ -99,12 +99,12 @@ module _ (maps : Maps) (table : List Entry) (F : Final) where
     abbrev Comes : (Memory → Memory → Type 0) → Memory → List Pick → Lazy → Type 0
     Comes K m ps y = (n : Memory) → Fit n → AllRead n.reads → K m n → Z (y n ps).end
 
-    element_reads : (o : Option ℤ) (n : ℕ) (i : ℤ) (g : ℤ → Lazy) (m : Memory) (ps : List Pick) → Fit m → AllRead m.reads
+    element_reads : (o : Option ℤ) (ty : PvType) (n : ℕ) (i : ℤ) (g : ℤ → Lazy) (m : Memory) (ps : List Pick) → Fit m → AllRead m.reads
         → ReadAt n i → ((z : ℤ) → o ≡ Some z → maps n i ≡ z) → Comes Still m ps (g (maps n i))
-        → Z (element_or final S o n i g m ps).end
-    element_reads (Some z) n i g m ps r rd at e h =
+        → Z (element_or final S o ty n i g m ps).end
+    element_reads (Some z) ty n i g m ps r rd at e h =
         subst (λ (w : ℤ). Z (g w m ps).end) (e z refl) (h m r rd (still_same m))
-    element_reads None n i g m ps r rd at e h =
+    element_reads None ty n i g m ps r rd at e h =
         h (record m { reads = record { number = n; index = i; value = maps n i } ∷ m.reads }) ((refl, r.0), r.1)
         (λ x j. elim j [ inl e ↦ subst (λ (y : ReadAs). ReadAt y.number y.index) (sym e) at | inr k ↦ rd x k ])
         (refl, alike_same m)
@@ -113,7 +113,7 @@ module _ (maps : Maps) (table : List Entry) (F : Final) where
         → Comes Still m ps (g (content maps c)) → Z (L.reading c g m ps).end
     reading_reads (Written v) g m ps r rd at h = h m r rd (still_same m)
     reading_reads (FromSteps u n i) g m ps r rd at h =
-        element_reads (value_read m.reads n i) n i (λ z. g (as_element u z)) m ps r rd at
+        element_reads (value_read m.reads n i) u n i (λ z. g (as_element u z)) m ps r rd at
         (λ z e. read_right maps m.reads n i z r.0 e) h
 
     cell_reads : (x : Option Cell) (g : Value → Lazy) (m : Memory) (ps : List Pick) → Fit m → AllRead m.reads

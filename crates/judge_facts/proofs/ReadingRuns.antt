@@ -294,11 +294,11 @@ module _ (maps : Maps) (table : List Entry) (F : Final) where
 
   -- What the setting offers
 
-  pick_holds : (f : ℤ → Pair) → ((z : ℤ) → Holds (f z)) → Holds (T.pick f)
-  pick_holds f h m [] r rd well l = absurd (l.1 refl)
-  pick_holds f h m (Number z ∷ ps) r rd well l = h z (taken_in (OneNumber z) m) ps r rd well l
-  pick_holds f h m (Turn n ∷ ps) r rd well l = absurd (l.1 refl)
-  pick_holds f h m (Steps x ∷ ps) r rd well l = absurd (l.1 refl)
+  pick_holds : (ty : PvType) (f : ℤ → Pair) → ((z : ℤ) → Holds (f z)) → Holds (T.pick ty f)
+  pick_holds ty f h m [] r rd well l = absurd (l.1 refl)
+  pick_holds ty f h m (Number z ∷ ps) r rd well l = h z (taken_in (OneNumber z) m) ps r rd well l
+  pick_holds ty f h m (Turn n ∷ ps) r rd well l = absurd (l.1 refl)
+  pick_holds ty f h m (Steps x ∷ ps) r rd well l = absurd (l.1 refl)
 
   by_turn : (b : Bool) (m : Memory) (y : Outcome Final) → Good y.end → Good (if b then y else at_end (final Unfit m)).end
   by_turn true m y h = h

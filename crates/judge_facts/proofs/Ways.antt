@@ -101,18 +101,18 @@ module _ (maps : Maps) (table : List Entry) where
     abbrev R : Option Value → Lazy → Type 0
     R = Reaches y from
 
-    element_reaches : (o : Option ℤ) (n : ℕ) (i : ℤ) (f : ℤ → Option Value) (g : ℤ → Lazy) → ((z : ℤ) → R (f z) (g z))
+    element_reaches : (o : Option ℤ) (ty : PvType) (n : ℕ) (i : ℤ) (f : ℤ → Option Value) (g : ℤ → Lazy) → ((z : ℤ) → R (f z) (g z))
         → (m : Memory) (ps : List Pick) → Fit m → Still from m → ((z : ℤ) → o ≡ Some z → maps n i ≡ z)
-        → Way (Passed from (f (maps n i))) ps y (element_or final S o n i g m ps).end
-    element_reaches (Some z) n i f g h m ps r a e =
+        → Way (Passed from (f (maps n i))) ps y (element_or final S o ty n i g m ps).end
+    element_reaches (Some z) ty n i f g h m ps r a e =
         subst (λ (w : ℤ). Way (Passed from (f w)) ps y (g z m ps).end) (sym (e z refl)) (h z m ps r a)
-    element_reaches None n i f g h m ps r a e = h (maps n i) _ ps ((refl, r.0), r.1) a
+    element_reaches None ty n i f g h m ps r a e = h (maps n i) _ ps ((refl, r.0), r.1) a
 
     reading_reaches : (c : Cell) (f : Value → Option Value) (g : Value → Lazy) → ((v : Value) → R (f v) (g v))
         → R (f (content maps c)) (L.reading c g)
     reading_reaches (Written v) f g h m ps r a = h v m ps r a
     reading_reaches (FromSteps type n i) f g h m ps r a =
-        element_reaches (value_read m.reads n i) n i (λ z. f (as_element type z)) (λ z. g (as_element type z))
+        element_reaches (value_read m.reads n i) type n i (λ z. f (as_element type z)) (λ z. g (as_element type z))
         (λ z. h (as_element type z)) m ps r a (λ z e. read_right maps m.reads n i z r.0 e)
 
     operation_reaches : (x : Option ℤ) (o : Operation) (b c : ℤ) (f : ℤ → Option Value) (g : ℤ → Lazy)

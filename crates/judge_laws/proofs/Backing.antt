@@ -3,6 +3,7 @@ use Rattle.std.proofs.Common.{◌≡◌, ℕ, suc, ℤ, Bool, true, false, if◌
 use Rattle.std.specs.Prelude.{nat_lt}
 use Rattle.pv_ast.specs.declared.PvType.{PvType}
 use Rattle.pv_values.specs.declared.value.Value.{Value}
+use Rattle.pv_ast.specs.declared.PvType.TheVariants.{Int}
 use Rattle.pv_picks.specs.declared.evidence.Pick.{Pick}
 use Rattle.pv_picks.specs.declared.evidence.Pick.TheVariants.{Number, Turn, Steps}
 use Rattle.pv_picks.specs.declared.evidence.Entry.{Entry}
@@ -58,16 +59,16 @@ module _ (maps : Maps) (table : List Entry) (values : ℕ → ℤ) (turns : ℕ 
   others : (x y : Taken) (ks ls : List Taken) → x ∷ ks ≡ y ∷ ls → ks ≡ ls
   others x y ks ls h = cc h
 
-  pick_backs : (f : ℤ → Lazily (List Pick) Final) (g : ℤ → Lazily Drawn Final) → ((z : ℤ) → Backs (f z) (g z))
-      → Backs ((testing final One).pick f) ((testing final Other).pick g)
-  pick_backs f g h m d = ((h (values d.taken) (taken_in (OneNumber (values d.taken)) m) (next_value d)).0, go)
+  pick_backs : (ty : PvType) (f : ℤ → Lazily (List Pick) Final) (g : ℤ → Lazily Drawn Final) → ((z : ℤ) → Backs (f z) (g z))
+      → Backs ((testing final One).pick ty f) ((testing final Other).pick ty g)
+  pick_backs ty f g h m d = ((h (values d.taken) (taken_in (OneNumber (values d.taken)) m) (next_value d)).0, go)
     where
-      go : Comes ((testing final One).pick f m) ((testing final Other).pick g m d)
+      go : Comes ((testing final One).pick ty f m) ((testing final Other).pick ty g m d)
       go [] k r u = absurd (cc k)
       go (Number w ∷ ps) k r u =
-          subst (λ (x : ℤ). picking (OneNumber x) (taking x (f x (taken_in (OneNumber x) m) ps))
-          ≡ (testing final Other).pick g m d) (sym (first_number w _ _ _ k))
-          (ap (λ o. picking (OneNumber (values d.taken)) (taking (values d.taken) o))
+          subst (λ (x : ℤ). picking (OneNumber x) (taking ty x (f x (taken_in (OneNumber x) m) ps))
+          ≡ (testing final Other).pick ty g m d) (sym (first_number w _ _ _ k))
+          (ap (λ o. picking (OneNumber (values d.taken)) (taking ty (values d.taken) o))
           ((h (values d.taken) (taken_in (OneNumber (values d.taken)) m) (next_value d)).1 ps (others _ _ _ _ k) r u))
       go (Turn n ∷ ps) k r u = absurd (cc k)
       go (Steps x ∷ ps) k r u = absurd (cc k)
@@ -112,16 +113,16 @@ module _ (maps : Maps) (table : List Entry) (values : ℕ → ℤ) (turns : ℕ 
       go (Turn b ∷ ps) k r u = absurd (cc k)
       go (Steps z ∷ ps) k r u = ap (picking ForRange) ((h (ranged n t a m) d).1 ps (others _ _ _ _ k) r u)
 
-  element_backs : (o : Option ℤ) (n : ℕ) (i : ℤ) (f : ℤ → Lazily (List Pick) Final) (g : ℤ → Lazily Drawn Final)
-      → ((z : ℤ) → Backs (f z) (g z)) → Backs (element_or final One o n i f) (element_or final Other o n i g)
-  element_backs (Some z) n i f g h m d = h z m d
-  element_backs None n i f g h m d =
+  element_backs : (o : Option ℤ) (ty : PvType) (n : ℕ) (i : ℤ) (f : ℤ → Lazily (List Pick) Final) (g : ℤ → Lazily Drawn Final)
+      → ((z : ℤ) → Backs (f z) (g z)) → Backs (element_or final One o ty n i f) (element_or final Other o ty n i g)
+  element_backs (Some z) ty n i f g h m d = h z m d
+  element_backs None ty n i f g h m d =
       let v = values d.taken in
       let read = λ (w : ℤ). record m { reads = record { number = n; index = i; value = w } ∷ m.reads } in
       let q = h v (read v) (next_value d) in (
         (λ r. (q.0.0 r).1, q.0.1),
-        λ ps k r u. subst (λ (w : ℤ). taking w (f w (read w) ps) ≡ taking v (g v (read v) (next_value d))) (sym (q.0.0 r).0)
-            (ap (taking v) (q.1 ps k r u)),
+        λ ps k r u. subst (λ (w : ℤ). taking ty w (f w (read w) ps) ≡ taking ty v (g v (read v) (next_value d))) (sym (q.0.0 r).0)
+            (ap (taking ty v) (q.1 ps k r u)),
       )
 
   operation_backs : (x : Option ℤ) (o : Operation) (b c : ℤ) (f : ℤ → Lazily (List Pick) Final) (g : ℤ → Lazily Drawn Final)
@@ -132,14 +133,14 @@ module _ (maps : Maps) (table : List Entry) (values : ℕ → ℤ) (turns : ℕ 
       let used = λ (w : ℤ). record m { uses = m.uses ++ record { used = (o, b, c); value = w } ∷ [] } in
       let q = h v (used v) (next_value d) in (
         (q.0.0, λ u. fits_front table m.uses _ (q.0.1 u)),
-        λ ps k r u. subst (λ (w : ℤ). taking w (f w (used w) ps) ≡ taking v (g v (used v) (next_value d)))
-            (sym (fits_last table m.uses _ (q.0.1 u))) (ap (taking v) (q.1 ps k r u)),
+        λ ps k r u. subst (λ (w : ℤ). taking Int w (f w (used w) ps) ≡ taking Int v (g v (used v) (next_value d)))
+            (sym (fits_last table m.uses _ (q.0.1 u))) (ap (taking Int v) (q.1 ps k r u)),
       )
 
   reading_backs : (c : Cell) (f : Value → Lazily (List Pick) Final) (g : Value → Lazily Drawn Final)
       → ((v : Value) → Backs (f v) (g v)) → Backs ((testing final One).reading c f) ((testing final Other).reading c g)
   reading_backs (Written v) f g h m d = h v m d
-  reading_backs (FromSteps type n i) f g h m d = element_backs (value_read m.reads n i) n i _ _ (λ z. h (as_element type z)) m d
+  reading_backs (FromSteps type n i) f g h m d = element_backs (value_read m.reads n i) type n i _ _ (λ z. h (as_element type z)) m d
 
   shown_backs : (sh : List Shown) (m t : Memory) (x : List Pick → Outcome Final) (o : Outcome Final) → t.uses ≡ m.uses → t.reads
       ≡ m.reads → Kept t o × Comes x o → Kept m (showing sh o) × Comes (λ ps. showing sh (x ps)) (showing sh o)

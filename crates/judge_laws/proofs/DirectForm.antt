@@ -2,6 +2,7 @@
 use Rattle.std.proofs.Common.{◌≡◌, ℕ, ℤ, Bool, true, false, if◌then◌else◌, List, [], ◌∷◌, refl}
 use Rattle.std.specs.Prelude.{nat_lt}
 use Rattle.pv_ast.specs.declared.PvType.{PvType}
+use Rattle.pv_ast.specs.declared.PvType.TheVariants.{Int}
 use Rattle.pv_picks.specs.declared.evidence.Pick.{Pick}
 use Rattle.pv_picks.specs.declared.evidence.Pick.TheVariants.{Number, Turn, Steps}
 use Rattle.pv_picks.specs.declared.evidence.Entry.{Entry}
@@ -30,7 +31,7 @@ tests_continue maps table next = record {
   blocked = λ picks. refl;
   failed = λ check span picks. refl;
   unfit = λ picks. refl;
-  pick = picks_continue;
+  pick = λ t. picks_continue;
   turn = turns_continue;
   steps = λ n t a. steps_continue n t a;
   using = λ o a b f g h. h _;
@@ -43,7 +44,7 @@ tests_continue maps table next = record {
 }
   where
     picks_continue : (f : ℤ → Judged) (g : ℤ → Directly) → ((z : ℤ) → Continues next (f z) (g z))
-        → Continues next ((judging maps table).pick f) ((directly maps table).pick g)
+        → Continues next ((judging maps table).pick Int f) ((directly maps table).pick Int g)
     picks_continue f g h [] = refl
     picks_continue f g h (Number z ∷ picks) = h z picks
     picks_continue f g h (Turn n ∷ picks) = refl

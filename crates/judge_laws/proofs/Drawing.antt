@@ -3,6 +3,7 @@ use Rattle.std.proofs.Common.{◌≡◌, ◌≢◌, ℕ, suc, ℤ, Bool, true, f
 use Rattle.std.specs.Prelude.{nat_lt}
 use Rattle.pv_ast.specs.declared.PvType.{PvType}
 use Rattle.pv_values.specs.declared.value.Value.{Value}
+use Rattle.pv_ast.specs.declared.PvType.TheVariants.{Int}
 use Rattle.pv_picks.specs.declared.evidence.Pick.{Pick}
 use Rattle.pv_picks.specs.declared.evidence.Pick.TheVariants.{Number, Turn, Steps}
 use Rattle.pv_picks.specs.declared.evidence.Entry.{Entry}
@@ -36,23 +37,23 @@ module _ (maps : Maps) (table : List Entry) (values : ℕ → ℤ) (turns : ℕ 
   next_turn d = record { taken = d.taken; turned = suc d.turned }
 
   -- the number that is taken is the value that comes next
-  drawn_next : (z w : ℤ) (o : Outcome Final) (g : ℤ → Outcome Final) → w ≡ z → g z ≡ o → taking w (g w) ≡ taking z o
-  drawn_next z w o g e h = subst (λ (x : ℤ). taking x (g x) ≡ taking z o) (sym e) (ap (taking z) h)
+  drawn_next : (ty : PvType) (z w : ℤ) (o : Outcome Final) (g : ℤ → Outcome Final) → w ≡ z → g z ≡ o → taking ty w (g w) ≡ taking ty z o
+  drawn_next ty z w o g e h = subst (λ (x : ℤ). taking ty x (g x) ≡ taking ty z o) (sym e) (ap (taking ty z) h)
 
-  picked_next : (z w : ℤ) (o : Outcome Final) (g : ℤ → Outcome Final) → w ≡ z → g z ≡ o → picking (OneNumber w) (taking w (g w))
-      ≡ picking (OneNumber z) (taking z o)
-  picked_next z w o g e h =
-      subst (λ (x : ℤ). picking (OneNumber x) (taking x (g x)) ≡ picking (OneNumber z) (taking z o)) (sym e)
-      (ap (λ y. picking (OneNumber z) (taking z y)) h)
+  picked_next : (ty : PvType) (z w : ℤ) (o : Outcome Final) (g : ℤ → Outcome Final) → w ≡ z → g z ≡ o → picking (OneNumber w) (taking ty w (g w))
+      ≡ picking (OneNumber z) (taking ty z o)
+  picked_next ty z w o g e h =
+      subst (λ (x : ℤ). picking (OneNumber x) (taking ty x (g x)) ≡ picking (OneNumber z) (taking ty z o)) (sym e)
+      (ap (λ y. picking (OneNumber z) (taking ty z y)) h)
 
-  pick_draws : (f : ℤ → Lazily (List Pick) Final) (g : ℤ → Lazily Drawn Final) → ((z : ℤ) → Draws (f z) (g z))
-      → Draws ((testing final One).pick f) ((testing final Other).pick g)
-  pick_draws f g h m [] d u a t = absurd (u refl)
-  pick_draws f g h m (Number z ∷ ps) d u a t =
-      picked_next z (values d.taken) _ (λ w. g w (taken_in (OneNumber w) m) (next_value d)) a.0
+  pick_draws : (ty : PvType) (f : ℤ → Lazily (List Pick) Final) (g : ℤ → Lazily Drawn Final) → ((z : ℤ) → Draws (f z) (g z))
+      → Draws ((testing final One).pick ty f) ((testing final Other).pick ty g)
+  pick_draws ty f g h m [] d u a t = absurd (u refl)
+  pick_draws ty f g h m (Number z ∷ ps) d u a t =
+      picked_next ty z (values d.taken) _ (λ w. g w (taken_in (OneNumber w) m) (next_value d)) a.0
       (h z (taken_in (OneNumber z) m) ps (next_value d) u a.1 t)
-  pick_draws f g h m (Turn n ∷ ps) d u a t = absurd (u refl)
-  pick_draws f g h m (Steps x ∷ ps) d u a t = absurd (u refl)
+  pick_draws ty f g h m (Turn n ∷ ps) d u a t = absurd (u refl)
+  pick_draws ty f g h m (Steps x ∷ ps) d u a t = absurd (u refl)
 
   by_turn : (m : Memory) (b : Bool) (x y : Outcome Final) → (if b then x else at_end (final Unfit m)).end.end ≢ Unfit
       → (b ≡ true → y ≡ x)
@@ -94,11 +95,11 @@ module _ (maps : Maps) (table : List Entry) (values : ℕ → ℤ) (turns : ℕ 
   steps_draw n t a x y h m (Turn b ∷ ps) d u v w = absurd (u refl)
   steps_draw n t a x y h m (Steps map ∷ ps) d u v w = ap (picking ForRange) (h (ranged n t a m) ps d u v w)
 
-  element_draws : (o : Option ℤ) (n : ℕ) (i : ℤ) (f : ℤ → Lazily (List Pick) Final) (g : ℤ → Lazily Drawn Final)
-      → ((z : ℤ) → Draws (f z) (g z)) → Draws (element_or final One o n i f) (element_or final Other o n i g)
-  element_draws (Some z) n i f g h m ps d u a t = h z m ps d u a t
-  element_draws None n i f g h m ps d u a t =
-      drawn_next (maps n i) (values d.taken) _
+  element_draws : (o : Option ℤ) (ty : PvType) (n : ℕ) (i : ℤ) (f : ℤ → Lazily (List Pick) Final) (g : ℤ → Lazily Drawn Final)
+      → ((z : ℤ) → Draws (f z) (g z)) → Draws (element_or final One o ty n i f) (element_or final Other o ty n i g)
+  element_draws (Some z) ty n i f g h m ps d u a t = h z m ps d u a t
+  element_draws None ty n i f g h m ps d u a t =
+      drawn_next ty (maps n i) (values d.taken) _
       (λ w. g w (record m { reads = record { number = n; index = i; value = w } ∷ m.reads }) (next_value d)) a.0
       (h (maps n i) _ ps (next_value d) u a.1 t)
 
@@ -106,7 +107,7 @@ module _ (maps : Maps) (table : List Entry) (values : ℕ → ℤ) (turns : ℕ 
       → ((z : ℤ) → Draws (f z) (g z)) → Draws (operation_or final One x o b c f) (operation_or final Other x o b c g)
   operation_draws (Some z) o b c f g h m ps d u a t = h z m ps d u a t
   operation_draws None o b c f g h m ps d u a t =
-      drawn_next (value_of_operation table o b c) (values d.taken) _
+      drawn_next Int (value_of_operation table o b c) (values d.taken) _
       (λ w. g w (record m { uses = m.uses ++ record { used = (o, b, c); value = w } ∷ [] }) (next_value d)) a.0
       (h (value_of_operation table o b c) _ ps (next_value d) u a.1 t)
 
@@ -114,7 +115,7 @@ module _ (maps : Maps) (table : List Entry) (values : ℕ → ℤ) (turns : ℕ 
       → ((v : Value) → Draws (f v) (g v)) → Draws ((testing final One).reading c f) ((testing final Other).reading c g)
   reading_draws (Written v) f g h m ps d u a t = h v m ps d u a t
   reading_draws (FromSteps type n i) f g h m ps d u a t =
-      element_draws (value_read m.reads n i) n i _ _ (λ z. h (as_element type z)) m ps d u a t
+      element_draws (value_read m.reads n i) type n i _ _ (λ z. h (as_element type z)) m ps d u a t
 
   tests_draw : AreRelated (testing final One) (testing final Other) Draws
   tests_draw = record {

@@ -8,6 +8,7 @@ use Rattle.pv_ast.specs.declared.Token.{Token}
 use Rattle.pv_ast.specs.declared.Token.TheVariants as token
 use Rattle.pv_values.specs.declared.value.Value.{Value}
 use Rattle.pv_fraction.specs.Amounts.{whole}
+use Rattle.pv_ast.specs.declared.PvType.TheVariants.{Int}
 use Rattle.pv_picks.specs.declared.evidence.Pick.{Pick}
 use Rattle.pv_picks.specs.declared.evidence.Pick.TheVariants.{Number, Turn, Steps}
 use Rattle.pv_picks.specs.declared.evidence.Entry.{Entry}
@@ -66,7 +67,7 @@ module _ (maps : Maps) (table : List Entry) where
   abbrev S : Setting Directly
   S = directly maps table
 
-  pick_falls : (f : ℤ → Directly) (s : State) → ((z : ℤ) → Falls (f z) s) → Falls (S.pick f) s
+  pick_falls : (f : ℤ → Directly) (s : State) → ((z : ℤ) → Falls (f z) s) → Falls (S.pick Int f) s
   pick_falls f s h [] left after e = ends_never _ after left e
   pick_falls f s h (Number z ∷ picks) left after e = h z picks left after e
   pick_falls f s h (Turn n ∷ picks) left after e = ends_never _ after left e

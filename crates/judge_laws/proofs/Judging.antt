@@ -151,12 +151,12 @@ module _ (maps : Maps) (table : List Entry) where
   abbrev Judges : Judged → Lazily (List Pick) Final → Type 0
   Judges x y = (m : Memory) (ps : List Pick) → Right m → (x ps ≡ as_end (y m ps).end.end) ⊎ (x ps ≡ Blocked)
 
-  pick_judges : (f : ℤ → Judged) (g : ℤ → Lazily (List Pick) Final) → ((z : ℤ) → Judges (f z) (g z))
-      → Judges (J.pick f) (L.pick g)
-  pick_judges f g h m [] r = inl refl
-  pick_judges f g h m (Number z ∷ ps) r = h z _ ps r
-  pick_judges f g h m (Turn n ∷ ps) r = inl refl
-  pick_judges f g h m (Steps x ∷ ps) r = inl refl
+  pick_judges : (t : PvType) (f : ℤ → Judged) (g : ℤ → Lazily (List Pick) Final) → ((z : ℤ) → Judges (f z) (g z))
+      → Judges (J.pick t f) (L.pick t g)
+  pick_judges t f g h m [] r = inl refl
+  pick_judges t f g h m (Number z ∷ ps) r = h z _ ps r
+  pick_judges t f g h m (Turn n ∷ ps) r = inl refl
+  pick_judges t f g h m (Steps x ∷ ps) r = inl refl
 
   by_turn : (b : Bool) (m : Memory) (x : End) (y : Outcome Final) → (x ≡ as_end y.end.end) ⊎ (x ≡ Blocked)
       → ((if b then x else Blocked) ≡ as_end (if b then y else at_end (final Unfit m)).end.end)
@@ -178,13 +178,13 @@ module _ (maps : Maps) (table : List Entry) where
   steps_judge n t a x y h m (Turn u ∷ ps) r = inl refl
   steps_judge n t a x y h m (Steps z ∷ ps) r = h (ranged n t a m) ps r
 
-  element_judges : (o : Option ℤ) (n : ℕ) (i : ℤ) (f : ℤ → Judged) (g : ℤ → Lazily (List Pick) Final)
+  element_judges : (o : Option ℤ) (ty : PvType) (n : ℕ) (i : ℤ) (f : ℤ → Judged) (g : ℤ → Lazily (List Pick) Final)
       → ((z : ℤ) → Judges (f z) (g z)) → (m : Memory) (ps : List Pick) → Right m
-      → ((z : ℤ) → o ≡ Some z → maps n i ≡ z) → (f (maps n i) ps ≡ as_end (element_or final S o n i g m ps).end.end)
+      → ((z : ℤ) → o ≡ Some z → maps n i ≡ z) → (f (maps n i) ps ≡ as_end (element_or final S o ty n i g m ps).end.end)
       ⊎ (f (maps n i) ps ≡ Blocked)
-  element_judges (Some z) n i f g h m ps r e =
+  element_judges (Some z) ty n i f g h m ps r e =
       subst (λ (w : ℤ). (f w ps ≡ as_end (g z m ps).end.end) ⊎ (f w ps ≡ Blocked)) (sym (e z refl)) (h z m ps r)
-  element_judges None n i f g h m ps r e = h (maps n i) _ ps ((refl, r.0), r.1)
+  element_judges None ty n i f g h m ps r e = h (maps n i) _ ps ((refl, r.0), r.1)
 
   operation_judges : (x : Option ℤ) (o : Operation) (b c : ℤ) (f : ℤ → Judged) (g : ℤ → Lazily (List Pick) Final)
       → ((z : ℤ) → Judges (f z) (g z)) → (m : Memory) (ps : List Pick) → Right m
@@ -200,7 +200,7 @@ module _ (maps : Maps) (table : List Entry) where
       → Judges (J.reading c f) (L.reading c g)
   reading_judges (Written v) f g h m ps r = h v m ps r
   reading_judges (FromSteps type n i) f g h m ps r =
-      element_judges (value_read m.reads n i) n i (λ z. f (as_element type z)) (λ z. g (as_element type z))
+      element_judges (value_read m.reads n i) type n i (λ z. f (as_element type z)) (λ z. g (as_element type z))
       (λ z. h (as_element type z)) m ps r (λ z e. read_right maps m.reads n i z r.0 e)
 
   tests_judge : AreRelated J L Judges

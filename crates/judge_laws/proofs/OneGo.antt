@@ -2,6 +2,8 @@
 use Rattle.std.proofs.Common.{◌≡◌, ℕ, ℤ, Bool, true, false, if◌then◌else◌, Option, Some, None, List, [], ◌∷◌, ◌++◌, refl, ap, sym, ◌∙◌}
 use Rattle.std.specs.Prelude.{nat_lt}
 use Rattle.pv_values.specs.declared.value.Value.{Value}
+use Rattle.pv_ast.specs.declared.PvType.{PvType}
+use Rattle.pv_ast.specs.declared.PvType.TheVariants.{Int}
 use Rattle.pv_picks.specs.Plain.Core.{Operation}
 use Rattle.pv_picks.specs.Judge.States.{State, Cell, Written, FromSteps, as_element}
 use Rattle.pv_picks.specs.Lazy.Patterns.{Shown, Took}
@@ -35,6 +37,7 @@ module _ {A E : Type 0} (values : ℕ → ℤ) (turns : ℕ → ℕ) (stop : Laz
       ap (showing sh) h ∙ ap (λ ts. record {
         shows = ts;
         values = (then_run stop o next).values;
+        types = (then_run stop o next).types;
         picks = (then_run stop o next).picks;
         end = (then_run stop o next).end;
       })
@@ -45,24 +48,24 @@ module _ {A E : Type 0} (values : ℕ → ℤ) (turns : ℕ → ℕ) (stop : Laz
   turn_continues true m o q h = h
   turn_continues false m o q h = refl
 
-  element_continues : (x : Option ℤ) (n : ℕ) (i : ℤ) (f : ℤ → Lazily Drawn (Came A)) (g : ℤ → Lazily Drawn E)
+  element_continues : (x : Option ℤ) (ty : PvType) (n : ℕ) (i : ℤ) (f : ℤ → Lazily Drawn (Came A)) (g : ℤ → Lazily Drawn E)
       → ((z : ℤ) → Continues (f z) (g z))
-      → Continues (element_or Stopped One x n i f) (element_or stop Other x n i g)
-  element_continues (Some z) n i f g h m d = h z m d
-  element_continues None n i f g h m d = ap (taking (values d.taken)) (h (values d.taken) _ _)
+      → Continues (element_or Stopped One x ty n i f) (element_or stop Other x ty n i g)
+  element_continues (Some z) ty n i f g h m d = h z m d
+  element_continues None ty n i f g h m d = ap (taking ty (values d.taken)) (h (values d.taken) _ _)
 
   operation_continues : (x : Option ℤ) (o : Operation) (b c : ℤ) (f : ℤ → Lazily Drawn (Came A)) (g : ℤ → Lazily Drawn E)
       → ((z : ℤ) → Continues (f z) (g z))
       → Continues (operation_or Stopped One x o b c f) (operation_or stop Other x o b c g)
   operation_continues (Some z) o b c f g h m d = h z m d
-  operation_continues None o b c f g h m d = ap (taking (values d.taken)) (h (values d.taken) _ _)
+  operation_continues None o b c f g h m d = ap (taking Int (values d.taken)) (h (values d.taken) _ _)
 
   reading_continues : (c : Cell) (f : Value → Lazily Drawn (Came A)) (g : Value → Lazily Drawn E)
       → ((v : Value) → Continues (f v) (g v))
       → Continues ((testing Stopped One).reading c f) ((testing stop Other).reading c g)
   reading_continues (Written v) f g h m d = h v m d
   reading_continues (FromSteps type n i) f g h m d =
-      element_continues (value_read m.reads n i) n i _ _ (λ z. h (as_element type z)) m d
+      element_continues (value_read m.reads n i) type n i _ _ (λ z. h (as_element type z)) m d
 
   tests_continue : AreRelated (testing Stopped One) (testing stop Other) Continues
   tests_continue = record {
@@ -70,7 +73,7 @@ module _ {A E : Type 0} (values : ℕ → ℤ) (turns : ℕ → ℕ) (stop : Laz
     blocked = λ m d. refl;
     failed = λ check span m d. refl;
     unfit = λ m d. refl;
-    pick = λ f g h m d. ap (λ o. picking (OneNumber (values d.taken)) (taking (values d.taken) o)) (h (values d.taken) _ _);
+    pick = λ ty f g h m d. ap (λ o. picking (OneNumber (values d.taken)) (taking ty (values d.taken) o)) (h (values d.taken) _ _);
     turn =
         λ f g h m d. ap (picking (OneTurn (turns d.turned)))
         (shown_continues (Took (turns d.turned) ∷ []) _ _ (turn_continues (nat_lt (turns d.turned) 3) _ _ _

@@ -2,6 +2,7 @@
 use Rattle.std.proofs.Common.{◌≡◌, ℕ, ℤ, Bool, true, false, if◌then◌else◌, List, [], ◌∷◌, ◌++◌, refl, ap, sym, ◌∙◌}
 use Rattle.pv_values.specs.declared.value.Value.{Value}
 use Rattle.pv_values.specs.declared.value.Value.TheVariants as value
+use Rattle.pv_ast.specs.declared.PvType.{PvType}
 use Rattle.pv_picks.specs.Plain.Core.{Expression, Constant, This, Result, Variable, Field, Element, Length, Not, Compute, Compare, Equal, And, Or, Implies, Old, Formula, Fact, FieldPermission, ElementPermission, Holds, Instance, Star, When, Each}
 use Rattle.std.specs.Prelude.{not}
 use Rattle.pv_picks.specs.Formulas.Values.{number_in, truth_in, reference_in, comparison, equality}
@@ -23,28 +24,32 @@ use Rattle.judge_laws.proofs.Taking as taking
 use Rattle.judge_laws.proofs.Formulas.{inhale_related, exhale_related}
 
 module _ {E : Type 0} (stop : LazyEnd → Memory → E) where
-  abbrev whole : List Shown → List ℤ → List Taken → E → Outcome E
-  whole ss vs ps e = record { shows = ss; values = vs; picks = ps; end = e }
+  abbrev whole : List Shown → List ℤ → List PvType → List Taken → E → Outcome E
+  whole ss vs ys ps e = record { shows = ss; values = vs; types = ys; picks = ps; end = e }
 
-  outcome_same : (ss ts : List Shown) (vs ws : List ℤ) (ps qs : List Taken) (e : E) → ss ≡ ts → vs ≡ ws → ps ≡ qs
-      → whole ss vs ps e ≡ whole ts ws qs e
-  outcome_same ss ts vs ws ps qs e p q r = ap (λ x. whole x vs ps e) p ∙ ap (λ x. whole ts x ps e) q ∙ ap (λ x. whole ts ws x e) r
+  outcome_same : (ss ts : List Shown) (vs ws : List ℤ) (ys zs : List PvType) (ps qs : List Taken) (e : E) → ss ≡ ts → vs ≡ ws
+      → ys ≡ zs → ps ≡ qs → whole ss vs ys ps e ≡ whole ts ws zs qs e
+  outcome_same ss ts vs ws ys zs ps qs e p q r t =
+      ap (λ x. whole x vs ys ps e) p ∙ ap (λ x. whole ts x ys ps e) q ∙ ap (λ x. whole ts ws x ps e) r
+      ∙ ap (λ x. whole ts ws zs x e) t
 
   -- what comes after two parts comes after the second of them
   pub then_after : {A B : Type 0} (o : Ran A) (k : A → Part B) (next : B → Next (Lazily Drawn E))
       → then_run stop (chain o k) next ≡ then_run stop o (λ a s m d. then_run stop (k a s m d) next)
   then_after {A = A} {B = B} o k next = go o.end
     where
-      go : (c : Came A) → then_run stop (chain (record { shows = o.shows; values = o.values; picks = o.picks; end = c }) k) next
-          ≡ then_run stop (record { shows = o.shows; values = o.values; picks = o.picks; end = c })
+      go : (c : Came A) → then_run stop (chain (record { shows = o.shows; values = o.values; types = o.types; picks = o.picks; end = c }) k) next
+          ≡ then_run stop (record { shows = o.shows; values = o.values; types = o.types; picks = o.picks; end = c })
           (λ a s m d. then_run stop (k a s m d) next)
       go (Goes a s m d) =
           let r : Ran B = k a s m d in
           let q : Outcome E = after stop r.end next in
-          outcome_same _ _ _ _ _ _ q.end (append_append o.shows r.shows q.shows) (append_append o.values r.values q.values)
+          outcome_same _ _ _ _ _ _ _ _ q.end (append_append o.shows r.shows q.shows) (append_append o.values r.values q.values)
+          (append_append o.types r.types q.types)
           (append_append o.picks r.picks q.picks)
       go (Stopped e m) =
-          outcome_same _ _ _ _ _ _ (stop e m) (append_append o.shows [] []) (append_append o.values [] [])
+          outcome_same _ _ _ _ _ _ _ _ (stop e m) (append_append o.shows [] []) (append_append o.values [] [])
+          (append_append o.types [] [])
           (append_append o.picks [] [])
 
   -- what comes next is the same from each state
@@ -52,11 +57,12 @@ module _ {E : Type 0} (stop : LazyEnd → Memory → E) where
       → ((a : A) (s : State) (m : Memory) (d : Drawn) → f a s m d ≡ g a s m d) → then_run stop o f ≡ then_run stop o g
   then_same {A = A} o f g h = go o.end
     where
-      go : (c : Came A) → then_run stop (record { shows = o.shows; values = o.values; picks = o.picks; end = c }) f
-          ≡ then_run stop (record { shows = o.shows; values = o.values; picks = o.picks; end = c }) g
+      go : (c : Came A) → then_run stop (record { shows = o.shows; values = o.values; types = o.types; picks = o.picks; end = c }) f
+          ≡ then_run stop (record { shows = o.shows; values = o.values; types = o.types; picks = o.picks; end = c }) g
       go (Goes a s m d) = ap (λ (q : Outcome E). record {
         shows = o.shows ++ q.shows;
         values = o.values ++ q.values;
+        types = o.types ++ q.types;
         picks = o.picks ++ q.picks;
         end = q.end;
       }) (h a s m d)

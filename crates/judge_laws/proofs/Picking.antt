@@ -2,6 +2,7 @@
 use Rattle.std.proofs.Common.{◌≡◌, ℕ, ℤ, Bool, true, false, if◌then◌else◌, Option, Some, None, List, [], ◌∷◌, ◌++◌, refl, ap, subst, ◌∙◌}
 use Rattle.std.specs.Prelude.{nat_lt}
 use Rattle.pv_values.specs.declared.value.Value.{Value}
+use Rattle.pv_ast.specs.declared.PvType.{PvType}
 use Rattle.pv_picks.specs.Plain.Core.{Operation}
 use Rattle.pv_picks.specs.Judge.States.{Cell, Written, FromSteps, as_element}
 use Rattle.pv_picks.specs.Judge.UnitRuns.{task_of}
@@ -33,10 +34,10 @@ module _ (values : ℕ → ℤ) (turns : ℕ → ℕ) where
   turn_keeps true m t o h = h ∙ one_more m.picks o.picks t
   turn_keeps false m t o h = refl
 
-  element_keeps : (o : Option ℤ) (n : ℕ) (i : ℤ) (f g : ℤ → Lazily Drawn Final) → ((z : ℤ) → Keeps (f z) (g z))
-      → Keeps (element_or final S o n i f) (element_or final S o n i g)
-  element_keeps (Some z) n i f g h m d = h z m d
-  element_keeps None n i f g h m d = h _ _ _
+  element_keeps : (o : Option ℤ) (ty : PvType) (n : ℕ) (i : ℤ) (f g : ℤ → Lazily Drawn Final) → ((z : ℤ) → Keeps (f z) (g z))
+      → Keeps (element_or final S o ty n i f) (element_or final S o ty n i g)
+  element_keeps (Some z) ty n i f g h m d = h z m d
+  element_keeps None ty n i f g h m d = h _ _ _
 
   operation_keeps : (x : Option ℤ) (o : Operation) (b c : ℤ) (f g : ℤ → Lazily Drawn Final) → ((z : ℤ) → Keeps (f z) (g z))
       → Keeps (operation_or final S x o b c f) (operation_or final S x o b c g)
@@ -47,7 +48,7 @@ module _ (values : ℕ → ℤ) (turns : ℕ → ℕ) where
       → Keeps ((testing final S).reading c f) ((testing final S).reading c g)
   reading_keeps (Written v) f g h m d = h v m d
   reading_keeps (FromSteps type n i) f g h m d =
-      element_keeps (value_read m.reads n i) n i _ (λ z. g (as_element type z)) (λ z. h (as_element type z)) m d
+      element_keeps (value_read m.reads n i) type n i _ (λ z. g (as_element type z)) (λ z. h (as_element type z)) m d
 
   tests_keep : AreRelated (testing final S) (testing final S) Keeps
   tests_keep = record {
@@ -55,7 +56,7 @@ module _ (values : ℕ → ℤ) (turns : ℕ → ℕ) where
     blocked = λ m d. none_behind m.picks;
     failed = λ check span m d. none_behind m.picks;
     unfit = λ m d. none_behind m.picks;
-    pick = λ f g h m d. h _ (taken_in (OneNumber (values d.taken)) m) _ ∙ one_more m.picks _ _;
+    pick = λ ty f g h m d. h _ (taken_in (OneNumber (values d.taken)) m) _ ∙ one_more m.picks _ _;
     turn =
         λ f g h m d. turn_keeps (nat_lt (turns d.turned) 3) m (OneTurn (turns d.turned)) _
         (h _ (taken_in (OneTurn (turns d.turned)) m) _);

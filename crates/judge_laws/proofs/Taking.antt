@@ -31,11 +31,11 @@ module _ {A B : Type 0} (S : Setting A) (T : Setting B) (P : A → B → Type 0)
 
   pub pick_value_related : (t : PvType) (f : Value → Next A) (g : Value → Next B) → ((v : Value) → Nexts (f v) (g v))
       → Nexts (pick_value S t f) (pick_value T t g)
-  pick_value_related type.Int f g h s = r.pick _ _ (λ z. h _ s)
-  pick_value_related type.Truth f g h s = r.pick _ _ (λ z. h _ s)
-  pick_value_related (type.Object c) f g h s = r.pick _ _ (λ z. met_as_related _ z f g h s)
-  pick_value_related type.IntArray f g h s = r.pick _ _ (λ z. met_as_related _ z f g h s)
-  pick_value_related type.TruthArray f g h s = r.pick _ _ (λ z. met_as_related _ z f g h s)
+  pick_value_related type.Int f g h s = r.pick _ _ _ (λ z. h _ s)
+  pick_value_related type.Truth f g h s = r.pick _ _ _ (λ z. h _ s)
+  pick_value_related (type.Object c) f g h s = r.pick _ _ _ (λ z. met_as_related _ z f g h s)
+  pick_value_related type.IntArray f g h s = r.pick _ _ _ (λ z. met_as_related _ z f g h s)
+  pick_value_related type.TruthArray f g h s = r.pick _ _ _ (λ z. met_as_related _ z f g h s)
   pick_value_related type.Null f g h s = r.blocked
 
   pub unless_null_related : (n : ℕ) (x u : A) (y w : B) → P x y → P u w → P (unless_null S n x u) (unless_null T n y w)
@@ -49,7 +49,7 @@ module _ {A B : Type 0} (S : Setting A) (T : Setting B) (P : A → B → Type 0)
       → Nexts (known_or_picked S o t a f) (known_or_picked T o t a g)
   known_or_picked_related (Some n) t a f g h s = h n s
   known_or_picked_related None t a f g h s =
-      r.pick _ _ (λ z. r.comparing _ _ _ _ (if_related P (int_le (pos 0) z) _ _ _ _ (h z _) r.blocked))
+      r.pick _ _ _ (λ z. r.comparing _ _ _ _ (if_related P (int_le (pos 0) z) _ _ _ _ (h z _) r.blocked))
 
   pub look_at_length_related : (t : PvType) (a : ℕ) (f : ℤ → Next A) (g : ℤ → Next B) → ((z : ℤ) → Nexts (f z) (g z))
       → Nexts (look_at_length S t a f) (look_at_length T t a g)

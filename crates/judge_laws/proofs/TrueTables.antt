@@ -7,6 +7,7 @@ use Rattle.pv_ast.specs.declared.Operator.{Operator}
 use Rattle.pv_ast.specs.declared.Operator.TheVariants as operator
 use Rattle.pv_values.specs.Heaps.{same_number}
 use Rattle.pv_ast.specs.declared.PvType.{PvType}
+use Rattle.pv_ast.specs.declared.PvType.TheVariants.{Int}
 use Rattle.pv_picks.specs.declared.evidence.Pick.{Pick}
 use Rattle.pv_picks.specs.declared.evidence.Pick.TheVariants.{Number, Turn, Steps}
 use Rattle.pv_picks.specs.declared.evidence.Entry.{Entry}
@@ -69,7 +70,7 @@ tests_agree maps table t = record {
   blocked = λ picks. refl;
   failed = λ check span picks. refl;
   unfit = λ picks. refl;
-  pick = picks_agree;
+  pick = λ t. picks_agree;
   turn = turns_agree;
   steps = λ n t a. steps_agree n t a;
   using = λ o a b f g h picks. h _ picks ∙ ap (λ op. g (op o a b) picks) (same_values table t);
@@ -82,7 +83,7 @@ tests_agree maps table t = record {
 }
   where
     picks_agree : (f g : ℤ → Judged) → ((z : ℤ) → Agree (f z) (g z))
-        → Agree ((judging maps table).pick f) ((judging maps []).pick g)
+        → Agree ((judging maps table).pick Int f) ((judging maps []).pick Int g)
     picks_agree f g h [] = refl
     picks_agree f g h (Number z ∷ picks) = h z picks
     picks_agree f g h (Turn n ∷ picks) = refl

@@ -13,7 +13,7 @@ pub record AreRelated {A B : Type 0} (one : Setting A) (other : Setting B) (P : 
   pub blocked : P one.blocked other.blocked
   pub failed : (check : Check) (span : Span) → P (one.failed check span) (other.failed check span)
   pub unfit : P one.unfit other.unfit
-  pub pick : (f : ℤ → A) (g : ℤ → B) → ((z : ℤ) → P (f z) (g z)) → P (one.pick f) (other.pick g)
+  pub pick : (t : PvType) (f : ℤ → A) (g : ℤ → B) → ((z : ℤ) → P (f z) (g z)) → P (one.pick t f) (other.pick t g)
   pub turn : (f : ℕ → A) (g : ℕ → B) → ((n : ℕ) → P (f n) (g n)) → P (one.turn f) (other.turn g)
   pub steps : (n : ℕ) (t : PvType) (a : ℕ) (x : A) (y : B) → P x y → P (one.steps n t a x) (other.steps n t a y)
   pub using : (o : Operation) (a b : ℤ) (f : ℤ → A) (g : ℤ → B) → ((z : ℤ) → P (f z) (g z))

@@ -3,6 +3,7 @@
 use Rattle.std.specs.Prelude.{ℤ, ◌+ℤ◌, pos, if◌then◌else◌, Option, Some, None, List, ◌∷◌}
 use Rattle.pv_base.specs.declared.Name.{Name}
 use Rattle.pv_base.specs.declared.Span.{Span}
+use Rattle.pv_ast.specs.declared.PvType.TheVariants.{Int}
 use Rattle.pv_ast.specs.declared.Token.TheVariants as token
 use Rattle.pv_values.specs.declared.value.Value.{Value}
 use Rattle.pv_picks.specs.declared.check.Check.{Check}
@@ -57,7 +58,7 @@ module _ {R : Type 0} (setting : Setting R) where
 
   -- a pure item at every position of a range that isn't empty: its mark
   abbrev pub exhale_repeated : Giving → Name → Expression → Span → Range → Next R → Next R
-  exhale_repeated f name e span r next state = setting.pick (λ mark. exhale_at_mark f name e span r mark next state)
+  exhale_repeated f name e span r next state = setting.pick Int (λ mark. exhale_at_mark f name e span r mark next state)
 
   abbrev mutual
     pub exhale : Giving → Formula → Next R → Next R

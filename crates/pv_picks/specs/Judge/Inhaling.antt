@@ -2,6 +2,7 @@
 -- reads what isn't held.
 use Rattle.std.specs.Prelude.{ℤ, ◌+ℤ◌, pos, if◌then◌else◌, List, ◌∷◌}
 use Rattle.pv_base.specs.declared.Name.{Name}
+use Rattle.pv_ast.specs.declared.PvType.TheVariants.{Int}
 use Rattle.pv_values.specs.declared.value.Value.{Value}
 use Rattle.pv_picks.specs.Plain.Core.{Expression, Formula, Fact, FieldPermission, ElementPermission, Holds, Instance, Star, When, Each, Items, NoItems, Join, Item, Elements, Repeated, Committed, Guarded, Fixed}
 use Rattle.pv_picks.specs.Formulas.Values.{number_in, truth_in, reference_in}
@@ -55,7 +56,7 @@ module _ {R : Type 0} (setting : Setting R) where
   -- a pure item at every position of a range that isn't empty: its mark, the test there, and then the fact is known
   abbrev pub inhale_repeated : Bind → Name → Expression → Range → Next R → Next R
   inhale_repeated bind name e r next state =
-      setting.pick (λ mark. inhale_at_mark bind name e r mark (come_to_know bind name e r next) state)
+      setting.pick Int (λ mark. inhale_at_mark bind name e r mark (come_to_know bind name e r next) state)
 
   abbrev mutual
     pub inhale : Bind → Formula → Next R → Next R

@@ -3,6 +3,7 @@
 use Rattle.std.specs.Prelude.{ℕ, suc, zero, ℤ, pos, ◌+ℤ◌, ◌-ℤ◌, Bool, true, false, nat_eq, int_le, int_lt, if◌then◌else◌, Option, Some, None, List, [], ◌∷◌}
 use Rattle.pv_base.specs.declared.Name.{Name}
 use Rattle.pv_base.specs.declared.Span.{Span}
+use Rattle.pv_ast.specs.declared.PvType.TheVariants.{Int}
 use Rattle.pv_ast.specs.declared.Token.TheVariants as token
 use Rattle.pv_values.specs.declared.value.Value.{Value}
 use Rattle.pv_values.specs.Sames.{same_truth}
@@ -151,7 +152,7 @@ module _ {R : Type 0} (setting : Setting R) where
 
   -- some position of a range
   abbrev pub pick_position : ℤ → ℤ → (ℤ → Next R) → Next R
-  pick_position low high next state = setting.pick (λ i. if_within setting low high i setting.blocked (next i state))
+  pick_position low high next state = setting.pick Int (λ i. if_within setting low high i setting.blocked (next i state))
 
   -- a member at some position of a range
   abbrev pub at_some : Name → ℤ → ℤ → Next R → Next R

@@ -66,7 +66,8 @@ pub record Setting (R : Type 0) : Type 0 where
   pub failed : Check → Span → R
   -- a negative number in the place of a reference
   pub unfit : R
-  pub pick : (ℤ → R) → R
+  -- a number in the place of a value of this type
+  pub pick : PvType → (ℤ → R) → R
   -- a turn below 3
   pub turn : (ℕ → R) → R
   -- one pick for a range: its number, the type of the elements and the array
@@ -113,11 +114,11 @@ module _ {R : Type 0} (setting : Setting R) where
 
   -- one pick, as a value of the type
   abbrev pub pick_value : PvType → (Value → Next R) → Next R
-  pick_value Int next state = setting.pick (λ z. next (value.Number z) state)
-  pick_value Truth next state = setting.pick (λ z. next (as_truth z) state)
-  pick_value (Object class) next state = setting.pick (λ z. met_as (Object class) z next state)
-  pick_value IntArray next state = setting.pick (λ z. met_as IntArray z next state)
-  pick_value TruthArray next state = setting.pick (λ z. met_as TruthArray z next state)
+  pick_value Int next state = setting.pick Int (λ z. next (value.Number z) state)
+  pick_value Truth next state = setting.pick Truth (λ z. next (as_truth z) state)
+  pick_value (Object class) next state = setting.pick (Object class) (λ z. met_as (Object class) z next state)
+  pick_value IntArray next state = setting.pick IntArray (λ z. met_as IntArray z next state)
+  pick_value TruthArray next state = setting.pick TruthArray (λ z. met_as TruthArray z next state)
   pick_value Null next state = setting.blocked
 
   -- goes on where the reference isn't null
@@ -133,7 +134,7 @@ module _ {R : Type 0} (setting : Setting R) where
   abbrev pub known_or_picked : Option ℤ → PvType → ℕ → (ℤ → Next R) → Next R
   known_or_picked (Some n) type array next state = next n state
   known_or_picked None type array next state =
-      setting.pick (λ z. setting.comparing z (pos 0) (if int_le (pos 0) z then next z
+      setting.pick Int (λ z. setting.comparing z (pos 0) (if int_le (pos 0) z then next z
       (with_length state type array z) else setting.blocked))
 
   abbrev pub look_at_length : PvType → ℕ → (ℤ → Next R) → Next R

@@ -44,6 +44,7 @@ abbrev pub then_run : {A E : Type 0} → (LazyEnd → Memory → E) → Ran A �
 then_run stop o next = record {
   shows = o.shows ++ (after stop o.end next).shows;
   values = o.values ++ (after stop o.end next).values;
+  types = o.types ++ (after stop o.end next).types;
   picks = o.picks ++ (after stop o.end next).picks;
   end = (after stop o.end next).end;
 }

@@ -3,6 +3,7 @@
 -- Where it takes them from is said by a source: from a list of picks, or in order from values and turns by their numbers.
 use Rattle.std.specs.Prelude.{ℕ, zero, suc, ℤ, pos, ◌+ℤ◌, Bool, true, false, not, ◌&&◌, ◌||◌, nat_eq, nat_lt, if◌then◌else◌, Option, Some, None, List, [], ◌∷◌, ◌++◌, ◌≢◌, map}
 use Rattle.pv_ast.specs.declared.PvType.{PvType}
+use Rattle.pv_ast.specs.declared.PvType.TheVariants.{Int}
 use Rattle.pv_values.specs.declared.value.Value.{Value}
 use Rattle.std.specs.List.{list_any}
 use Rattle.pv_values.specs.Heaps.{same_number}
@@ -63,10 +64,12 @@ pub data LazyEnd : Type 0 where
   Ends : End → LazyEnd
   Unfit : LazyEnd
 
--- what a run shows; the numbers that it takes, in their order; its picks; what comes in the end
+-- what a run shows; the numbers that it takes, in their order, and the types of the values in whose places they stand; its picks;
+-- what comes in the end
 pub record Outcome (E : Type 0) : Type 0 where
   pub shows : List Shown
   pub values : List ℤ
+  pub types : List PvType
   pub picks : List Taken
   pub end : E
 
@@ -76,16 +79,22 @@ no_memory =
 
 module _ {E : Type 0} where
   abbrev pub at_end : E → Outcome E
-  at_end end = record { shows = []; values = []; picks = []; end = end }
+  at_end end = record { shows = []; values = []; types = []; picks = []; end = end }
 
   abbrev pub showing : List Shown → Outcome E → Outcome E
-  showing shown o = record { shows = shown ++ o.shows; values = o.values; picks = o.picks; end = o.end }
+  showing shown o = record { shows = shown ++ o.shows; values = o.values; types = o.types; picks = o.picks; end = o.end }
 
-  abbrev pub taking : ℤ → Outcome E → Outcome E
-  taking z o = record { shows = o.shows; values = z ∷ o.values; picks = o.picks; end = o.end }
+  abbrev pub taking : PvType → ℤ → Outcome E → Outcome E
+  taking type z o = record {
+    shows = o.shows;
+    values = z ∷ o.values;
+    types = type ∷ o.types;
+    picks = o.picks;
+    end = o.end;
+  }
 
   abbrev pub picking : Taken → Outcome E → Outcome E
-  picking t o = record { shows = o.shows; values = o.values; picks = t ∷ o.picks; end = o.end }
+  picking t o = record { shows = o.shows; values = o.values; types = o.types; picks = t ∷ o.picks; end = o.end }
 
 -- where a run takes what it takes: a number, a turn, a pick for a range, an element of such a pick that is read for the first
 -- time, the value of an operation that is used for the first time
@@ -173,8 +182,9 @@ module _ {S E : Type 0} (stop : LazyEnd → Memory → E) (source : Source S E) 
   abbrev pub ending : LazyEnd → Lazily S E
   ending end memory s = at_end (stop end memory)
 
-  abbrev pub lazy_pick : (ℤ → Lazily S E) → Lazily S E
-  lazy_pick next memory = source.number (λ z s. picking (OneNumber z) (taking z (next z (taken_in (OneNumber z) memory) s)))
+  abbrev pub lazy_pick : PvType → (ℤ → Lazily S E) → Lazily S E
+  lazy_pick type next memory =
+      source.number (λ z s. picking (OneNumber z) (taking type z (next z (taken_in (OneNumber z) memory) s)))
 
   abbrev pub lazy_turn : (ℕ → Lazily S E) → Lazily S E
   lazy_turn next memory =
@@ -185,22 +195,22 @@ module _ {S E : Type 0} (stop : LazyEnd → Memory → E) (source : Source S E) 
   lazy_steps number type array rest memory = source.steps (λ s. picking ForRange (rest (ranged number type array memory) s))
 
   -- an element of a pick for a range is taken when it is first read
-  abbrev pub element_or : Option ℤ → ℕ → ℤ → (ℤ → Lazily S E) → Lazily S E
-  element_or (Some z) number index next memory s = next z memory s
-  element_or None number index next memory s =
-      source.element number index (λ z t. taking z
+  abbrev pub element_or : Option ℤ → PvType → ℕ → ℤ → (ℤ → Lazily S E) → Lazily S E
+  element_or (Some z) type number index next memory s = next z memory s
+  element_or None type number index next memory s =
+      source.element number index (λ z t. taking type z
       (next z (record memory { reads = record { number = number; index = index; value = z } ∷ memory.reads }) t)) s
 
   abbrev pub lazy_read : Cell → (Value → Lazily S E) → Lazily S E
   lazy_read (Written v) next memory s = next v memory s
   lazy_read (FromSteps type number index) next memory s =
-      element_or (value_read memory.reads number index) number index (λ z. next (as_element type z)) memory s
+      element_or (value_read memory.reads number index) type number index (λ z. next (as_element type z)) memory s
 
   -- the value of an operation is taken where its operator and arguments are used for the first time
   abbrev pub operation_or : Option ℤ → Operation → ℤ → ℤ → (ℤ → Lazily S E) → Lazily S E
   operation_or (Some z) operation a b next memory s = next z memory s
   operation_or None operation a b next memory s =
-      source.operation operation a b (λ z t. taking z
+      source.operation operation a b (λ z t. taking Int z
       (next z (record memory { uses = memory.uses ++ record { used = (operation, a, b); value = z } ∷ [] }) t)) s
 
   -- a use is held against those before it
@@ -348,9 +358,12 @@ HasPattern p unit evidence = (lazy_run p unit evidence).end.end ≢ Unfit
 abbrev pub pattern_of : Program → PvUnit → Evidence → List Shown
 pattern_of p unit evidence = (lazy_run p unit evidence).shows
 
--- the values of evidence: the numbers that its lazy run takes, in their order
+-- the values of evidence: the numbers that its lazy run takes, in their order; and the types for which they stand
 abbrev pub values_of : Program → PvUnit → Evidence → List ℤ
 values_of p unit evidence = (lazy_run p unit evidence).values
+
+abbrev pub types_of : Program → PvUnit → Evidence → List PvType
+types_of p unit evidence = (lazy_run p unit evidence).types
 
 -- From values and turns by their numbers
 
