@@ -125,7 +125,8 @@ module _ (maps : Maps) (table : List Entry) (N : Array → List ℤ) where
       h (record m { uses = m.uses ++ record { used = (o, b, c); value = value_of_operation table o b c } ∷ [] }) ps
       (r.0, fits_more table m.uses _ r.1 refl)
 
-  element_holds : (o : Option ℤ) (ty : PvType) (n : ℕ) (i : ℤ) (f : ℤ → Pair) → Holds (f (maps n i)) → (m : Memory) (ps : List Pick) → Fit m
+  element_holds : (o : Option ℤ) (ty : PvType) (n : ℕ) (i : ℤ) (f : ℤ → Pair) → Holds (f (maps n i))
+      → (m : Memory) (ps : List Pick) → Fit m
       → ((z : ℤ) → o ≡ Some z → maps n i ≡ z) → Good m.known (element_or final S o ty n i (λ z. (f z).0) m ps).end
   element_holds (Some z) ty n i f h m ps r e = subst (λ (w : ℤ). Good m.known ((f w).0 m ps).end) (e z refl) (h m ps r)
   element_holds None ty n i f h m ps r e =

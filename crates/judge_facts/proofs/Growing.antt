@@ -92,7 +92,8 @@ module _ (maps : Maps) (table : List Entry) where
         known = h.known;
       }
 
-  pub element_grows : (o : Option ℤ) (ty : PvType) (n : ℕ) (i : ℤ) (f : ℤ → Lazy) → ((z : ℤ) → Grows (f z)) → Grows (element_or final S o ty n i f)
+  pub element_grows : (o : Option ℤ) (ty : PvType) (n : ℕ) (i : ℤ) (f : ℤ → Lazy) → ((z : ℤ) → Grows (f z))
+      → Grows (element_or final S o ty n i f)
   element_grows (Some z) ty n i f g m ps r l = g z m ps r l
   element_grows None ty n i f g m ps r l =
       let h = g (maps n i) (record m { reads = record { number = n; index = i; value = maps n i } ∷ m.reads }) ps

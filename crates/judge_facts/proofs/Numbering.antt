@@ -122,7 +122,8 @@ module _ (maps : Maps) (table : List Entry) where
       h (record m { uses = m.uses ++ record { used = (o, a, b); value = value_of_operation table o a b } ∷ [] }) ps
       (r.0, fits_more table m.uses _ r.1 refl) e n l
 
-  element_counts : (c : ℕ) (o : Option ℤ) (ty : PvType) (k : ℕ) (i : ℤ) (f : ℤ → Lazy) → Counts c (f (maps k i)) → (m : Memory) (ps : List Pick)
+  element_counts : (c : ℕ) (o : Option ℤ) (ty : PvType) (k : ℕ) (i : ℤ) (f : ℤ → Lazy) → Counts c (f (maps k i))
+      → (m : Memory) (ps : List Pick)
       → Fit m → ((z : ℤ) → o ≡ Some z → maps k i ≡ z) → length m.ranges ≡ c → Numbered m.ranges
       → Live (element_or final S o ty k i f m ps).end → Numbered (element_or final S o ty k i f m ps).end.ranges
   element_counts c (Some z) ty k i f h m ps r g e n l =

@@ -86,7 +86,8 @@ module _ (maps : Maps) (table : List Entry) where
       → Same (element_or final S o ty n i f) (element_or final S o ty n i g)
   element_same (Some z) ty n i f g h m ps = h z m ps
   element_same None ty n i f g h m ps =
-      ap (taking ty (maps n i)) (h (maps n i) (record m { reads = record { number = n; index = i; value = maps n i } ∷ m.reads }) ps)
+      ap (taking ty (maps n i)) (h (maps n i) (record m { reads = record { number = n; index = i; value = maps n i } ∷ m.reads })
+      ps)
 
   operation_same : (x : Option ℤ) (o : Operation) (b c : ℤ) (f g : ℤ → Lazy) → ((z : ℤ) → Same (f z) (g z))
       → Same (operation_or final S x o b c f) (operation_or final S x o b c g)
@@ -99,7 +100,8 @@ module _ (maps : Maps) (table : List Entry) where
   reading_same : (c : Cell) (f g : Value → Lazy) → ((v : Value) → Same (f v) (g v)) → Same (L.reading c f) (L.reading c g)
   reading_same (Written v) f g h m ps = h v m ps
   reading_same (FromSteps t n i) f g h m ps =
-      element_same (value_read m.reads n i) t n i (λ z. f (as_element t z)) (λ z. g (as_element t z)) (λ z. h (as_element t z)) m ps
+      element_same (value_read m.reads n i) t n i (λ z. f (as_element t z)) (λ z. g (as_element t z)) (λ z. h (as_element t z)) m
+      ps
 
   tests_same : AreRelated L L Same
   tests_same = record {

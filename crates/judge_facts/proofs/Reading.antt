@@ -99,7 +99,8 @@ module _ (maps : Maps) (table : List Entry) (F : Final) where
     abbrev Comes : (Memory → Memory → Type 0) → Memory → List Pick → Lazy → Type 0
     Comes K m ps y = (n : Memory) → Fit n → AllRead n.reads → K m n → Z (y n ps).end
 
-    element_reads : (o : Option ℤ) (ty : PvType) (n : ℕ) (i : ℤ) (g : ℤ → Lazy) (m : Memory) (ps : List Pick) → Fit m → AllRead m.reads
+    element_reads : (o : Option ℤ) (ty : PvType) (n : ℕ) (i : ℤ) (g : ℤ → Lazy) (m : Memory) (ps : List Pick) → Fit m
+        → AllRead m.reads
         → ReadAt n i → ((z : ℤ) → o ≡ Some z → maps n i ≡ z) → Comes Still m ps (g (maps n i))
         → Z (element_or final S o ty n i g m ps).end
     element_reads (Some z) ty n i g m ps r rd at e h =

@@ -101,7 +101,8 @@ module _ (maps : Maps) (table : List Entry) where
     abbrev R : Option Value → Lazy → Type 0
     R = Reaches y from
 
-    element_reaches : (o : Option ℤ) (ty : PvType) (n : ℕ) (i : ℤ) (f : ℤ → Option Value) (g : ℤ → Lazy) → ((z : ℤ) → R (f z) (g z))
+    element_reaches : (o : Option ℤ) (ty : PvType) (n : ℕ) (i : ℤ) (f : ℤ → Option Value) (g : ℤ → Lazy)
+        → ((z : ℤ) → R (f z) (g z))
         → (m : Memory) (ps : List Pick) → Fit m → Still from m → ((z : ℤ) → o ≡ Some z → maps n i ≡ z)
         → Way (Passed from (f (maps n i))) ps y (element_or final S o ty n i g m ps).end
     element_reaches (Some z) ty n i f g h m ps r a e =

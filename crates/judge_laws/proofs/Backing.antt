@@ -140,7 +140,8 @@ module _ (maps : Maps) (table : List Entry) (values : ℕ → ℤ) (turns : ℕ 
   reading_backs : (c : Cell) (f : Value → Lazily (List Pick) Final) (g : Value → Lazily Drawn Final)
       → ((v : Value) → Backs (f v) (g v)) → Backs ((testing final One).reading c f) ((testing final Other).reading c g)
   reading_backs (Written v) f g h m d = h v m d
-  reading_backs (FromSteps type n i) f g h m d = element_backs (value_read m.reads n i) type n i _ _ (λ z. h (as_element type z)) m d
+  reading_backs (FromSteps type n i) f g h m d =
+      element_backs (value_read m.reads n i) type n i _ _ (λ z. h (as_element type z)) m d
 
   shown_backs : (sh : List Shown) (m t : Memory) (x : List Pick → Outcome Final) (o : Outcome Final) → t.uses ≡ m.uses → t.reads
       ≡ m.reads → Kept t o × Comes x o → Kept m (showing sh o) × Comes (λ ps. showing sh (x ps)) (showing sh o)

@@ -37,10 +37,12 @@ module _ (maps : Maps) (table : List Entry) (values : ℕ → ℤ) (turns : ℕ 
   next_turn d = record { taken = d.taken; turned = suc d.turned }
 
   -- the number that is taken is the value that comes next
-  drawn_next : (ty : PvType) (z w : ℤ) (o : Outcome Final) (g : ℤ → Outcome Final) → w ≡ z → g z ≡ o → taking ty w (g w) ≡ taking ty z o
+  drawn_next : (ty : PvType) (z w : ℤ) (o : Outcome Final) (g : ℤ → Outcome Final) → w ≡ z → g z ≡ o → taking ty w (g w)
+      ≡ taking ty z o
   drawn_next ty z w o g e h = subst (λ (x : ℤ). taking ty x (g x) ≡ taking ty z o) (sym e) (ap (taking ty z) h)
 
-  picked_next : (ty : PvType) (z w : ℤ) (o : Outcome Final) (g : ℤ → Outcome Final) → w ≡ z → g z ≡ o → picking (OneNumber w) (taking ty w (g w))
+  picked_next : (ty : PvType) (z w : ℤ) (o : Outcome Final) (g : ℤ → Outcome Final) → w ≡ z → g z ≡ o
+      → picking (OneNumber w) (taking ty w (g w))
       ≡ picking (OneNumber z) (taking ty z o)
   picked_next ty z w o g e h =
       subst (λ (x : ℤ). picking (OneNumber x) (taking ty x (g x)) ≡ picking (OneNumber z) (taking ty z o)) (sym e)

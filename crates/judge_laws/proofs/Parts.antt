@@ -38,7 +38,8 @@ module _ {E : Type 0} (stop : LazyEnd → Memory → E) where
       → then_run stop (chain o k) next ≡ then_run stop o (λ a s m d. then_run stop (k a s m d) next)
   then_after {A = A} {B = B} o k next = go o.end
     where
-      go : (c : Came A) → then_run stop (chain (record { shows = o.shows; values = o.values; types = o.types; picks = o.picks; end = c }) k) next
+      go : (c : Came A) → then_run stop (chain
+          (record { shows = o.shows; values = o.values; types = o.types; picks = o.picks; end = c }) k) next
           ≡ then_run stop (record { shows = o.shows; values = o.values; types = o.types; picks = o.picks; end = c })
           (λ a s m d. then_run stop (k a s m d) next)
       go (Goes a s m d) =
@@ -57,7 +58,8 @@ module _ {E : Type 0} (stop : LazyEnd → Memory → E) where
       → ((a : A) (s : State) (m : Memory) (d : Drawn) → f a s m d ≡ g a s m d) → then_run stop o f ≡ then_run stop o g
   then_same {A = A} o f g h = go o.end
     where
-      go : (c : Came A) → then_run stop (record { shows = o.shows; values = o.values; types = o.types; picks = o.picks; end = c }) f
+      go : (c : Came A) → then_run stop (record { shows = o.shows; values = o.values; types = o.types; picks = o.picks; end = c })
+          f
           ≡ then_run stop (record { shows = o.shows; values = o.values; types = o.types; picks = o.picks; end = c }) g
       go (Goes a s m d) = ap (λ (q : Outcome E). record {
         shows = o.shows ++ q.shows;
