@@ -1,5 +1,5 @@
 -- What an answer leaves.
-use Rattle.std.proofs.Common.{◌≡◌, ℕ, suc, ◌+◌, ◌<◌, List, [], ◌∷◌, ◌++◌, Bool, true, false, length, subst, sym, ◌∙◌, ◌⊎◌, inl, inr, arith, length-append, get_or}
+use Rattle.std.proofs.Common.{◌≡◌, ℕ, suc, ◌+◌, ◌<◌, List, [], ◌∷◌, ◌++◌, Bool, true, false, Result, Ok, Err, IfOk, length, subst, sym, ◌∙◌, ◌⊎◌, inl, inr, arith, length-append, get_or}
 use Rattle.std.proofs.Math.Seq.{get_or-append_seam}
 use Rattle.std.proofs.lemmas.List.{get_or_append_left}
 use Rattle.pv_linear.specs.declared.Sort.{Sort}
@@ -11,14 +11,19 @@ use Rattle.pv_linear.proofs.Pairs.{nat_same}
 use Rattle.pv_linear.specs.Sorting.{IsNumberAmong, IsReferenceAmong, AreSortsApart}
 use Rattle.pv_linear.specs.Evidence.{Evidence, Follows, answered, IsLong, HasAllSymbols, MayBeFull, OnFull, MayAsk, IsNumber, IsReference, IsOfSorts, AreOfSorts}
 
--- who may be full before a refusal may be full after it
-pub on_long : (fault : AskFault) (old new : List Literal) (symbols : ℕ) → new ≡ old → OnFull fault (IsLong old)
-    → OnFull fault (MayBeFull new symbols)
-unfolding MayBeFull
-on_long Full old new symbols e h = inl (subst IsLong (sym e) h)
-on_long NoMemory old new symbols e h = tt
+-- what follows from two things that are so of an answer is so of it
+pub both_ok : {A E : Type 0} (r : Result A E) (P Q R : A → Type 0) → IfOk r P → IfOk r Q → ((a : A) → P a → Q a → R a) → IfOk r R
+both_ok (Ok a) P Q R p q f = f a p q
+both_ok (Err e) P Q R p q f = tt
 
-pub on_symbols : (fault : AskFault) (old new : List Literal) (before after : ℕ) → new ≡ old → after ≡ before
+-- who may be full before a refusal may be full after it
+pub on_long : (fault : AskFault) (old new : List Literal) (sorts : List Sort) → new ≡ old → OnFull fault (IsLong old)
+    → OnFull fault (MayBeFull new sorts)
+unfolding MayBeFull
+on_long Full old new sorts e h = inl (subst IsLong (sym e) h)
+on_long NoMemory old new sorts e h = tt
+
+pub on_symbols : (fault : AskFault) (old new : List Literal) (before after : List Sort) → new ≡ old → after ≡ before
     → OnFull fault (HasAllSymbols old before) → OnFull fault (MayBeFull new after)
 unfolding MayBeFull
 on_symbols Full old new before after e d h = inr

@@ -15,6 +15,14 @@ pub record Evidence : Type 0 where
   pub values : Values
   pub turns : ℕ → ℕ
 
+-- there are three turns
+abbrev pub HasTurns : Evidence → Type 0
+HasTurns e = (k : ℕ) → e.turns k < 3
+
+-- the evidence that has these numbers and these turns, and then zeros
+abbrev pub evidence_of : Values → List ℕ → Evidence
+evidence_of values turns = record { values = values; turns = λ k. slice_index turns k }
+
 -- numbers that meet the literals
 pub record Solution (literals : List Literal) : Type 0 where
   pub values : Values
@@ -46,13 +54,13 @@ Undecided before (l ∷ ls) n = Undecided (before ++ l ∷ []) ls n ⊎
 unfoldable pub IsLong : List Literal → Type 0
 IsLong path = CanBeMet path × ∥ Undecided [] path 65536 ∥₁
 
--- the path can be met, and as many symbols stand on it as there are
-unfoldable pub HasAllSymbols : List Literal → ℕ → Type 0
-HasAllSymbols path symbols = CanBeMet path × (4294967294 ≤ symbols)
+-- the path can be met, and as many symbols were made as there are
+unfoldable pub HasAllSymbols : List Literal → List Sort → Type 0
+HasAllSymbols path sorts = CanBeMet path × (4294967294 ≤ length sorts)
 
 -- the asker may answer Full
-unfoldable pub MayBeFull : List Literal → ℕ → Type 0
-MayBeFull path symbols = IsLong path ⊎ HasAllSymbols path symbols
+unfoldable pub MayBeFull : List Literal → List Sort → Type 0
+MayBeFull path sorts = IsLong path ⊎ HasAllSymbols path sorts
 
 -- P, where the fault is Full
 abbrev pub OnFull : AskFault → Type 0 → Type 0

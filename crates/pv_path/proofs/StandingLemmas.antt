@@ -8,7 +8,7 @@ use Rattle.pv_linear.specs.declared.Literal.{Literal}
 use Rattle.pv_linear.specs.declared.Literal.TheVariants.{AtMost, Same, Differ}
 use Rattle.pv_linear.specs.Values.{Values}
 use Rattle.pv_linear.specs.Literal.{Meets, opposite, IsBounded, bound_of_all}
-use Rattle.pv_linear.specs.Evidence.{Evidence, CanBeMet}
+use Rattle.pv_linear.specs.Evidence.{Evidence, evidence_of, CanBeMet}
 use Rattle.pv_linear.specs.Decisions.{Decision, fact, turn_is, Agrees, turns_in, literals_in, AreNumbered}
 use Rattle.pv_linear.proofs.MeetsLemmas.{Meets-left}
 use Rattle.pv_linear.proofs.Bounds.{bound_of_bounded, bound_of_all-append}
@@ -17,7 +17,7 @@ use Rattle.pv_path.specs.declared.branch.Turn.TheVariants.{First, Second, Third}
 use Rattle.pv_path.specs.declared.branch.Branch.{Branch}
 use Rattle.pv_path.specs.declared.branch.Branch.TheVariants.{Open, Closed, Turned}
 use Rattle.pv_path.specs.Branches.{turn_number, with_turn, decision_behind, decisions_of, sides_at, sides_of, parts_of, IsTurnedOver, branch_literals, branch_turns, Among}
-use Rattle.pv_path.specs.Standing.{evidence_of, CanStand, AreUndecided, IsOpen, span_of}
+use Rattle.pv_path.specs.Standing.{CanStand, AreUndecided, IsOpen, span_of}
 use Rattle.pv_path.proofs.BranchLemmas.{literals_in-append, turns_in-append, literals_of_decisions, turns_of_decisions, AreNumbered-fact, AreNumbered-turn, numbered_behind, decisions_more, sides_more, among_left, among_right, among_either, next_part, branch_literals-append, span_of-append}
 
 -- all numbers are below 3
@@ -43,7 +43,7 @@ turns_below (Turned t ∷ bs) zero = turn_below t
 turns_below (Turned t ∷ bs) (suc k) = turns_below bs k
 
 -- numbers that meet the literals of numbered decisions agree with them, with the turns that stand there
-agrees_from : (v : Values) (ts : List ℕ) (k : ℕ) (ds : List Decision) → AreNumbered k ds → Meets v (literals_in ds)
+pub agrees_from : (v : Values) (ts : List ℕ) (k : ℕ) (ds : List Decision) → AreNumbered k ds → Meets v (literals_in ds)
     → ((j : ℕ) → j < length (turns_in ds) → slice_index ts (k + j) ≡ slice_index (turns_in ds) j) → Agrees (evidence_of v ts) ds
 unfolding Agrees
 agrees_from v ts k [] a m t = tt
