@@ -3,10 +3,11 @@ use Rattle.std.proofs.Common.{◌≡◌, ◌≢◌, ℕ, suc, List, [], ◌∷�
 use Rattle.pv_linear.specs.declared.Literal.{Literal}
 use Rattle.pv_linear.specs.Literal.{opposite}
 use Rattle.pv_linear.specs.Evidence.{Evidence, Follows}
-use Rattle.pv_linear.specs.Decisions.{Decision, fact, turn_is, On, Agrees, Level, Apart, Gone, OfUnit}
+use Rattle.pv_linear.specs.Decisions.{Decision, fact, turn_is, Agrees, Level, Apart, Gone, OfUnit}
 use Rattle.pv_linear.specs.Asking.{Meet, Tells, TellsStopped, Together}
 use Rattle.pv_linear.proofs.Pairs.{Agrees-append-one, Gone-more, Gone-last, Meet_front, Meet_rest, nat_same}
 use Rattle.pv_linear.proofs.MeetsLemmas.{opposite_holds, opposite_denies}
+use Rattle.pv_linear.proofs.DecisionLemmas.{Agrees-front, Agrees-last}
 
 -- who has left a decision doesn't agree with all
 pub gone_denies : (ds : List Decision) (e f : Evidence) → Gone ds e f → Agrees e ds → ⊥
@@ -32,16 +33,6 @@ pub patterns_differ : {A : Type 0} (pattern : Evidence → A) (has : Evidence �
     → OfUnit pattern has ds → ((x : Evidence) → Agrees x ds → Agrees x es → ⊥) → (e f : Evidence) → has e → has f → Agrees e ds
     → Agrees f es → pattern e ≢ pattern f
 patterns_differ pattern has ds es of apart e f h k a b = λ p. apart f (closed pattern has ds of e f h k p a) b
-
-Agrees-front : (e : Evidence) (xs ys : List Decision) → Agrees e (xs ++ ys) → Agrees e xs
-unfolding Agrees
-Agrees-front e [] ys h = tt
-Agrees-front e (x ∷ xs) ys h = (h.0, Agrees-front e xs ys h.1)
-
-Agrees-last : (e : Evidence) (xs : List Decision) (d : Decision) → Agrees e (xs ++ d ∷ []) → On e d
-unfolding Agrees
-Agrees-last e [] d h = h.0
-Agrees-last e (x ∷ xs) d h = Agrees-last e xs d h.1
 
 Gone-front : (e f : Evidence) (xs ys : List Decision) → Gone (xs ++ ys) e f → (Agrees e xs × Agrees f xs) ⊎ Gone xs e f
 unfolding Gone Agrees

@@ -1,9 +1,7 @@
 -- Evidence, and what a path of literals says of it.
-use Rattle.std.specs.Prelude.{ℕ, suc, ◌<◌, ◌≤◌, ◌≡◌, ◌≢◌, ◌⊎◌, List, [], ◌∷◌, ◌++◌, length, slice_index, Bool, if◌then◌else◌}
+use Rattle.std.specs.Prelude.{ℕ, suc, ◌<◌, ◌≤◌, ◌≡◌, ◌⊎◌, List, [], ◌∷◌, ◌++◌, length, slice_index, Bool, if◌then◌else◌}
 use Rattle.pv_linear.specs.declared.Sort.{Sort}
-use Rattle.pv_linear.specs.declared.Sort.TheVariants.{Reference}
 use Rattle.pv_linear.specs.declared.Literal.{Literal}
-use Rattle.pv_linear.specs.declared.Literal.TheVariants.{AtMost, Same, Differ}
 use Rattle.pv_linear.specs.declared.asker.AskFault.{AskFault}
 use Rattle.pv_linear.specs.declared.asker.AskFault.TheVariants.{Full, NoMemory}
 use Rattle.pv_linear.specs.Values.{Values}
@@ -71,21 +69,3 @@ OnFull NoMemory P = Unit {0}
 -- path with the literal
 unfoldable pub MayAsk : List Literal → Literal → Type 0
 MayAsk path literal = CanBeMet path → AreSortsApart (path ++ literal ∷ [])
-
--- the symbol with this number is 0 or no reference; it is 0 or a reference
-abbrev pub IsNumber : (ℕ → Sort) → ℕ → Type 0
-IsNumber sorts k = k ≢ 0 → sorts k ≢ Reference
-
-abbrev pub IsReference : (ℕ → Sort) → ℕ → Type 0
-IsReference sorts k = k ≢ 0 → sorts k ≡ Reference
-
--- the symbols stand in the literal as their sorts say
-abbrev pub IsOfSorts : (ℕ → Sort) → Literal → Type 0
-IsOfSorts sorts (AtMost x y c) = IsNumber sorts x.0 × IsNumber sorts y.0
-IsOfSorts sorts (Same x y) = IsReference sorts x.0 × IsReference sorts y.0
-IsOfSorts sorts (Differ x y) = IsReference sorts x.0 × IsReference sorts y.0
-
--- so in all literals
-unfoldable pub AreOfSorts : (ℕ → Sort) → List Literal → Type 0
-AreOfSorts sorts [] = Unit {0}
-AreOfSorts sorts (l ∷ ls) = IsOfSorts sorts l × AreOfSorts sorts ls

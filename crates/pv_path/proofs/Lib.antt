@@ -3,6 +3,7 @@ pub mod LiteralLemmas
 pub mod OverLemmas
 pub mod PartsLemmas
 pub mod PathLemmas
+pub mod SideLemmas
 pub mod StandingLemmas
 pub mod TestLemmas
 pub mod TurnLemmas

@@ -1,5 +1,6 @@
 use Rattle.pv_linear.proofs.MeetsLemmas.{Follows-front, Follows-says}
-use Rattle.pv_linear.proofs.AskingLemmas.{both_ok, sorts_answered}
+use Rattle.pv_linear.proofs.AskingLemmas.{both_ok}
+use Rattle.pv_linear.proofs.SortedLemmas.{sorted_asked}
 use Rattle.pv_linear.proofs.Pairs.{told_alike, gone_decides}
 use Rattle.pv_linear.proofs.asking.question.Goals as goal
 
@@ -22,6 +23,6 @@ pub returns-clause-tells : goal.returns-clause-tells
 returns-clause-tells g c = both_ok c.ask.result _ _ _ c.ask.ensures.path c.ask.ensures.decides (λ told p d. λ e f h k v m n.
     rw (p, c.ask.ensures.turns) (told_alike _ _ _ _ _ told e f d h k v m n))
 
-pub returns-clause-sorts : goal.returns-clause-sorts
-returns-clause-sorts g c = both_ok c.ask.result _ _ _ c.ask.ensures.path c.ask.ensures.path
-    (λ told p q. λ sorts h k. rw p (sorts_answered sorts _ _ told h k))
+pub returns-clause-sorted : goal.returns-clause-sorted
+returns-clause-sorted g c = both_ok c.ask.result _ _ _ c.ask.ensures.path c.ask.ensures.decides (λ told p d. λ takes s h.
+    rw (p, c.ask.ensures.turns, c.ask.ensures.sorts) (sorted_asked takes _ _ _ _ _ _ told d h s))
