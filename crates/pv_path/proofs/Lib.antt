@@ -1,5 +1,6 @@
 pub mod BranchLemmas
 pub mod LiteralLemmas
+pub mod OppositeLemmas
 pub mod OverLemmas
 pub mod PartsLemmas
 pub mod PathLemmas

@@ -6,13 +6,13 @@ ghost use Rattle.pv_linear.specs.Values.{Values};
 ghost use Rattle.pv_linear.specs.Literal.{IsBounded, Holds, Meets, opposite, bound_of_all};
 ghost use Rattle.pv_linear.specs.Sorting.{AreSortsApart};
 ghost use Rattle.pv_linear.specs.Evidence.{Evidence, HasTurns, CanBeMet, MayAsk, IsLong, HasAllSymbols, OnFull, answered};
-ghost use Rattle.pv_linear.specs.Decisions.{Agrees, Decides, DecidesTurn, literals_in};
+ghost use Rattle.pv_linear.specs.Decisions.{Agrees, Decides, DecidesTurn, literals_in, turns_in};
 ghost use Rattle.pv_path.specs.declared.branch.Branch.TheVariants.{Open as OpenBranch};
 ghost use Rattle.pv_path.specs.declared.path.Next.TheVariants.{More as MoreNext, Done as DoneNext, Splits as SplitsNext};
 ghost use Rattle.pv_path.specs.Branches.{branch_turns};
 ghost use Rattle.pv_path.specs.Standing.{Narrowed, AreUndecided, IsOpen, IsSettled, IsSideOf};
 
-use crate::branch::{next_side, turn_at};
+use crate::branch::{next_side, turn_at, turns_of};
 use crate::choices::Choices;
 use crate::literals::{Settled, can_be_added, has_free_symbol, has_new_symbol, known, known_at};
 use pv_base::NoMemory;
@@ -92,6 +92,13 @@ impl Path {
         ensures bounds { bound_of_all result.now ≤ 2 ^ 100 }
     {
         &self.choices.literals
+    }
+
+    /// The turns among the path's decisions, in order, those kept for later calls of `turn` included.
+    pub fn decided_turns(&self, alloc: Global) -> Result<Vec<u32>, NoMemory>
+        ensures { IfOk result (λ turns. turns.items ≡ turns_in (decisions self.now)) }
+    {
+        turns_of(alloc, &self.choices.branches)
     }
 
     /// Whether the literal follows from the path, or its opposite, or neither. One that stands on the path, or whose opposite
