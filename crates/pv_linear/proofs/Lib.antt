@@ -1,5 +1,12 @@
 pub mod AskingLemmas
 pub mod Bounds
+pub mod DecisionLemmas
+pub mod Fitting
 pub mod MeetsLemmas
+pub mod Orders
 pub mod Pairs
+pub mod Raised
+pub mod SortedLemmas
+pub mod SortingLemmas
+pub mod SortsKept
 pub mod Splits

@@ -3,10 +3,11 @@ use Rattle.std.proofs.Common.{◌≡◌, ◌≢◌, ℕ, suc, List, [], ◌∷�
 use Rattle.pv_linear.specs.declared.Literal.{Literal}
 use Rattle.pv_linear.specs.Literal.{opposite}
 use Rattle.pv_linear.specs.Evidence.{Evidence, Follows}
-use Rattle.pv_linear.specs.Decisions.{Decision, fact, turn_is, On, Agrees, Level, Apart, Gone, OfUnit}
-use Rattle.pv_linear.specs.Asking.{Meet, Tells, Together}
+use Rattle.pv_linear.specs.Decisions.{Decision, fact, turn_is, Agrees, Level, Apart, Gone, OfUnit}
+use Rattle.pv_linear.specs.Asking.{Meet, Tells, TellsStopped, Together}
 use Rattle.pv_linear.proofs.Pairs.{Agrees-append-one, Gone-more, Gone-last, Meet_front, Meet_rest, nat_same}
 use Rattle.pv_linear.proofs.MeetsLemmas.{opposite_holds, opposite_denies}
+use Rattle.pv_linear.proofs.DecisionLemmas.{Agrees-front, Agrees-last}
 
 -- who has left a decision doesn't agree with all
 pub gone_denies : (ds : List Decision) (e f : Evidence) → Gone ds e f → Agrees e ds → ⊥
@@ -33,16 +34,6 @@ pub patterns_differ : {A : Type 0} (pattern : Evidence → A) (has : Evidence �
     → Agrees f es → pattern e ≢ pattern f
 patterns_differ pattern has ds es of apart e f h k a b = λ p. apart f (closed pattern has ds of e f h k p a) b
 
-Agrees-front : (e : Evidence) (xs ys : List Decision) → Agrees e (xs ++ ys) → Agrees e xs
-unfolding Agrees
-Agrees-front e [] ys h = tt
-Agrees-front e (x ∷ xs) ys h = (h.0, Agrees-front e xs ys h.1)
-
-Agrees-last : (e : Evidence) (xs : List Decision) (d : Decision) → Agrees e (xs ++ d ∷ []) → On e d
-unfolding Agrees
-Agrees-last e [] d h = h.0
-Agrees-last e (x ∷ xs) d h = Agrees-last e xs d h.1
-
 Gone-front : (e f : Evidence) (xs ys : List Decision) → Gone (xs ++ ys) e f → (Agrees e xs × Agrees f xs) ⊎ Gone xs e f
 unfolding Gone Agrees
 Gone-front e f [] ys g = inl (tt, tt)
@@ -57,7 +48,7 @@ unfolding Level
 of_unit_front pattern has xs ys of e f h k p =
     elim (of e f h k p) [ inl l ↦ inl (Agrees-front e xs ys l.0, Agrees-front f xs ys l.1) | inr g ↦ Gone-front e f xs ys g ]
 
-Gone-end : (e f : Evidence) (xs : List Decision) (d : Decision) → Gone (xs ++ d ∷ []) e f → Agrees e xs → Apart e f d
+pub Gone-end : (e f : Evidence) (xs : List Decision) (d : Decision) → Gone (xs ++ d ∷ []) e f → Agrees e xs → Apart e f d
 unfolding Gone Agrees
 Gone-end e f [] d (inl n) a = n
 Gone-end e f [] d (inr p) a = absurd p.1
@@ -84,7 +75,7 @@ of_unit_turned pattern has xs l of e f h k p = go (of e f h k p) (of_unit_front 
           Agrees-append-one f xs _ b.1 (opposite_holds f.values l n.1),
         )
 
-Meet-same : {A : Type 0} (xs : List A) → Meet xs xs
+pub Meet-same : {A : Type 0} (xs : List A) → Meet xs xs
 unfolding Meet
 Meet-same [] = tt
 Meet-same (x ∷ xs) = (refl, Meet-same xs)
@@ -98,6 +89,20 @@ pub run_of_unit : {S A : Type 0} (path : S → List Literal) (turns : S → List
     → OfUnit shows has (decisions old) → OfUnit shows has (decisions new)
 unfolding Level
 run_of_unit path turns decisions old new shows has start gone tells of e f h k p = elim (of e f h k p) [
+  | inl l ↦ elim (tells e f (start e l.0) (start f l.1) l (subst (λ z. Meet (shows e) z) p (Meet-same (shows e))))
+      [ inl t ↦ inl t.1.1.0 | inr g ↦ inr g ]
+  | inr g ↦ inr (gone e f g)
+]
+
+-- and so does a run that was refused on its way
+pub stopped_of_unit : {S A : Type 0} (path : S → List Literal) (turns : S → List ℕ) (decisions : S → List Decision) (old new : S)
+    (shows : Evidence → List A) (has : Evidence → Type 0)
+    → ((e : Evidence) → Agrees e (decisions old) → Follows (path old) (turns old) e)
+    → ((e f : Evidence) → Gone (decisions old) e f → Gone (decisions new) e f)
+    → TellsStopped path turns decisions old new shows
+    → OfUnit shows has (decisions old) → OfUnit shows has (decisions new)
+unfolding Level
+stopped_of_unit path turns decisions old new shows has start gone tells of e f h k p = elim (of e f h k p) [
   | inl l ↦ elim (tells e f (start e l.0) (start f l.1) l (subst (λ z. Meet (shows e) z) p (Meet-same (shows e))))
       [ inl t ↦ inl t.1.1.0 | inr g ↦ inr g ]
   | inr g ↦ inr (gone e f g)
@@ -121,6 +126,31 @@ then_tells path turns decisions old mid new one rest two a b gone same e f h k v
         let q = same f y in
         elim (b e f x y w (rw (p, q) at (Meet_rest (one e) (rest e) (one f) (rest f) s m)))
         [ inl t ↦ inl (t.0, (t.1.0, (t.1.1.0, (rw (p, q, s, t.1.1.1) refl)))) | inr g ↦ inr g ]
+
+-- one run after the other, of which the second was refused on its way
+pub then_stops : {S A : Type 0} (path : S → List Literal) (turns : S → List ℕ) (decisions : S → List Decision) (old mid new : S)
+    (one rest two : Evidence → List A)
+    → Tells path turns decisions old mid one → TellsStopped path turns decisions mid new two
+    → ((e f : Evidence) → Gone (decisions mid) e f → Gone (decisions new) e f)
+    → ((e : Evidence) → Follows (path mid) (turns mid) e → rest e ≡ two e)
+    → TellsStopped path turns decisions old new (λ e. one e ++ rest e)
+then_stops path turns decisions old mid new one rest two a b gone same e f h k v m =
+    go (a e f h k v (Meet_front (one e) (rest e) (one f) (rest f) m))
+  where
+    go : Together path turns decisions mid e f (one e ≡ one f) → Together path turns decisions new e f (Unit {0})
+    go (inr g) = inr (gone e f g)
+    go (inl (x, (y, (w, s)))) =
+        let p = same e x in
+        let q = same f y in
+        b e f x y w (rw (p, q) at (Meet_rest (one e) (rest e) (one f) (rest f) s m))
+
+-- one that was refused before the second began
+pub front_stops : {S A : Type 0} (path : S → List Literal) (turns : S → List ℕ) (decisions : S → List Decision) (old new : S)
+    (one rest : Evidence → List A)
+    → TellsStopped path turns decisions old new one
+    → TellsStopped path turns decisions old new (λ e. one e ++ rest e)
+front_stops path turns decisions old new one rest a e f h k v m =
+    a e f h k v (Meet_front (one e) (rest e) (one f) (rest f) m)
 
 -- the same of what is only equal to it, for two pieces of evidence
 pub then_tells_as : {S A : Type 0} (path : S → List Literal) (turns : S → List ℕ) (decisions : S → List Decision)

@@ -1,5 +1,5 @@
 -- The decisions of a path, and what two pieces of evidence come to at them.
-use Rattle.std.specs.Prelude.{ℕ, suc, ◌≡◌, ◌⊎◌, List, [], ◌∷◌, ◌++◌, Some, length, slice_get}
+use Rattle.std.specs.Prelude.{ℕ, suc, ◌<◌, ◌≡◌, ◌⊎◌, List, [], ◌∷◌, ◌++◌, Some, length, slice_get, slice_index}
 use Rattle.pv_linear.specs.declared.Literal.{Literal}
 use Rattle.pv_linear.specs.Values.{Values}
 use Rattle.pv_linear.specs.Literal.{Holds, Meets, opposite}
@@ -38,9 +38,13 @@ AreNumbered k [] = Unit {0}
 AreNumbered k (fact l ∷ ds) = AreNumbered k ds
 AreNumbered k (turn_is j n ∷ ds) = (j ≡ k) × AreNumbered (suc k) ds
 
+-- all turns are below 3
+abbrev pub AllBelow : List ℕ → Type 0
+AllBelow ns = (k : ℕ) → slice_index ns k < 3
+
 -- one list is the front of the other
-abbrev pub IsFront : List ℕ → List ℕ → Type 0
-IsFront xs ys = (zs : List ℕ) × (ys ≡ xs ++ zs)
+abbrev pub IsFront : {A : Type 0} → List A → List A → Type 0
+IsFront {A = A} xs ys = (zs : List A) × (ys ≡ xs ++ zs)
 
 -- the turns taken are the first of the turns among the decisions, which are numbered from 0 on
 pub record AreTaken (turns : List ℕ) (decisions : List Decision) : Type 0 where

@@ -1,9 +1,7 @@
 -- Evidence, and what a path of literals says of it.
-use Rattle.std.specs.Prelude.{ℕ, suc, ◌<◌, ◌≤◌, ◌≡◌, ◌≢◌, ◌⊎◌, List, [], ◌∷◌, ◌++◌, length, slice_index, Bool, if◌then◌else◌}
+use Rattle.std.specs.Prelude.{ℕ, suc, ◌<◌, ◌≤◌, ◌≡◌, ◌⊎◌, List, [], ◌∷◌, ◌++◌, length, slice_index, Bool, if◌then◌else◌}
 use Rattle.pv_linear.specs.declared.Sort.{Sort}
-use Rattle.pv_linear.specs.declared.Sort.TheVariants.{Reference}
 use Rattle.pv_linear.specs.declared.Literal.{Literal}
-use Rattle.pv_linear.specs.declared.Literal.TheVariants.{AtMost, Same, Differ}
 use Rattle.pv_linear.specs.declared.asker.AskFault.{AskFault}
 use Rattle.pv_linear.specs.declared.asker.AskFault.TheVariants.{Full, NoMemory}
 use Rattle.pv_linear.specs.Values.{Values}
@@ -14,6 +12,14 @@ use Rattle.pv_linear.specs.Sorting.{AreSortsApart}
 pub record Evidence : Type 0 where
   pub values : Values
   pub turns : ℕ → ℕ
+
+-- there are three turns
+abbrev pub HasTurns : Evidence → Type 0
+HasTurns e = (k : ℕ) → e.turns k < 3
+
+-- the evidence that has these numbers and these turns, and then zeros
+abbrev pub evidence_of : Values → List ℕ → Evidence
+evidence_of values turns = record { values = values; turns = λ k. slice_index turns k }
 
 -- numbers that meet the literals
 pub record Solution (literals : List Literal) : Type 0 where
@@ -46,13 +52,13 @@ Undecided before (l ∷ ls) n = Undecided (before ++ l ∷ []) ls n ⊎
 unfoldable pub IsLong : List Literal → Type 0
 IsLong path = CanBeMet path × ∥ Undecided [] path 65536 ∥₁
 
--- the path can be met, and as many symbols stand on it as there are
-unfoldable pub HasAllSymbols : List Literal → ℕ → Type 0
-HasAllSymbols path symbols = CanBeMet path × (4294967294 ≤ symbols)
+-- the path can be met, and as many symbols were made as there are
+unfoldable pub HasAllSymbols : List Literal → List Sort → Type 0
+HasAllSymbols path sorts = CanBeMet path × (4294967294 ≤ length sorts)
 
 -- the asker may answer Full
-unfoldable pub MayBeFull : List Literal → ℕ → Type 0
-MayBeFull path symbols = IsLong path ⊎ HasAllSymbols path symbols
+unfoldable pub MayBeFull : List Literal → List Sort → Type 0
+MayBeFull path sorts = IsLong path ⊎ HasAllSymbols path sorts
 
 -- P, where the fault is Full
 abbrev pub OnFull : AskFault → Type 0 → Type 0
@@ -63,21 +69,3 @@ OnFull NoMemory P = Unit {0}
 -- path with the literal
 unfoldable pub MayAsk : List Literal → Literal → Type 0
 MayAsk path literal = CanBeMet path → AreSortsApart (path ++ literal ∷ [])
-
--- the symbol with this number is 0 or no reference; it is 0 or a reference
-abbrev pub IsNumber : (ℕ → Sort) → ℕ → Type 0
-IsNumber sorts k = k ≢ 0 → sorts k ≢ Reference
-
-abbrev pub IsReference : (ℕ → Sort) → ℕ → Type 0
-IsReference sorts k = k ≢ 0 → sorts k ≡ Reference
-
--- the symbols stand in the literal as their sorts say
-abbrev pub IsOfSorts : (ℕ → Sort) → Literal → Type 0
-IsOfSorts sorts (AtMost x y c) = IsNumber sorts x.0 × IsNumber sorts y.0
-IsOfSorts sorts (Same x y) = IsReference sorts x.0 × IsReference sorts y.0
-IsOfSorts sorts (Differ x y) = IsReference sorts x.0 × IsReference sorts y.0
-
--- so in all literals
-unfoldable pub AreOfSorts : (ℕ → Sort) → List Literal → Type 0
-AreOfSorts sorts [] = Unit {0}
-AreOfSorts sorts (l ∷ ls) = IsOfSorts sorts l × AreOfSorts sorts ls

@@ -1,6 +1,6 @@
 //! Who answers the questions of a symbolic run.
 
-ghost use Rattle.std.specs.Prelude.{◌≡◌, ◌<◌, ◌+◌, ◌^◌, [], ◌∷◌, ◌++◌, IfOk, IfErr, OnOk, OnErr};
+ghost use Rattle.std.specs.Prelude.{◌≡◌, ◌<◌, ◌+◌, ◌^◌, [], ◌∷◌, ◌++◌, length, IfOk, IfErr, OnOk, OnErr};
 ghost use Rattle.pv_linear.specs.declared.asker.AskFault.TheVariants.{NoMemory as NoMemoryFault};
 ghost use Rattle.pv_linear.specs.Literal.{IsBounded, opposite};
 ghost use Rattle.pv_linear.specs.Evidence.{Evidence, answered, MayAsk, IsLong, HasAllSymbols, OnFull};
@@ -55,6 +55,7 @@ pub enum Added {
 pub trait Asker {
     ghost use Rattle.std.specs.Prelude.{ℕ, List};
     ghost use Rattle.pv_linear.specs.declared.Literal.{Literal};
+    ghost use Rattle.pv_linear.specs.declared.Sort.{Sort as Sorts};
 
     /// The literals on the path.
     ghost path: { Self → List Literal };
@@ -69,8 +70,11 @@ pub trait Asker {
     /// The evidence lies in some part of what is to be walked, the path included.
     ghost stands: { Self → Evidence → Type 0 };
 
-    /// How many symbols stand.
-    ghost symbols: { Self → ℕ };
+    /// The sorts of the symbols made, which are numbered from 1 in this order.
+    ghost sorts: { Self → List Sorts };
+
+    /// How many paths have ended before this one. No call changes it.
+    ghost ended: { Self → ℕ };
 
     /// Puts the literal on the path and answers true, or its opposite and answers false. `Full` comes only where the path can
     /// be met and 65,536 of its literals are such that the opposite of each can be met together with those before it. After
@@ -78,12 +82,14 @@ pub trait Asker {
     fn ask(&mut self, literal: Literal) -> Result<bool, AskFault>
         requires bound { IsBounded (2 ^ 100) literal }
         requires opposite { IsBounded (2 ^ 100) (opposite literal) }
-        requires sorts { MayAsk (path self.old) literal }
+        requires may { MayAsk (path self.old) literal }
         ensures path { IfOk result (λ told. path self.new ≡ path self.old ++ answered literal told ∷ []) }
         ensures decides { IfOk result (λ told. Decides (path self.old) (decisions self.old) (decisions self.new) (answered literal told)) }
         ensures turns { turns self.new ≡ turns self.old }
-        ensures symbols { symbols self.new ≡ symbols self.old }
+        ensures sorts { sorts self.new ≡ sorts self.old }
         ensures keeps { (e : Evidence) → stands self.old e → stands self.new e }
+        ensures adds { (e : Evidence) → stands self.new e → stands self.old e }
+        ensures ended { ended self.new ≡ ended self.old }
         ensures same_path { OnErr result (path self.new ≡ path self.old) }
         ensures same_decisions { OnErr result (decisions self.new ≡ decisions self.old) }
         ensures full { IfErr result (λ fault. OnFull fault (IsLong (path self.old))) };
@@ -95,8 +101,10 @@ pub trait Asker {
         ensures turns { IfOk result (λ n. turns self.new ≡ turns self.old ++ n ∷ []) }
         ensures decides { IfOk result (λ n. DecidesTurn (turns self.old) (decisions self.old) (decisions self.new) n) }
         ensures path { path self.new ≡ path self.old }
-        ensures symbols { symbols self.new ≡ symbols self.old }
+        ensures sorts { sorts self.new ≡ sorts self.old }
         ensures keeps { (e : Evidence) → stands self.old e → stands self.new e }
+        ensures adds { (e : Evidence) → stands self.new e → stands self.old e }
+        ensures ended { ended self.new ≡ ended self.old }
         ensures same_turns { OnErr result (turns self.new ≡ turns self.old) }
         ensures same_decisions { OnErr result (decisions self.new ≡ decisions self.old) }
         ensures fault { IfErr result (λ fault. fault ≡ NoMemoryFault) };
@@ -104,14 +112,16 @@ pub trait Asker {
     /// A new symbol of this sort; they are numbered from 1. `Full` comes only where the path can be met and 4,294,967,294
     /// symbols stand. After a refusal all is as before.
     fn fresh(&mut self, sort: Sort) -> Result<Symbol, AskFault>
-        ensures symbol { IfOk result (λ symbol. symbol.0 ≡ symbols self.old + 1) }
-        ensures symbols { OnOk result (symbols self.new ≡ symbols self.old + 1) }
+        ensures symbol { IfOk result (λ symbol. symbol.0 ≡ length (sorts self.old) + 1) }
+        ensures sorts { OnOk result (sorts self.new ≡ sorts self.old ++ sort ∷ []) }
         ensures path { path self.new ≡ path self.old }
         ensures turns { turns self.new ≡ turns self.old }
         ensures decisions { decisions self.new ≡ decisions self.old }
         ensures keeps { (e : Evidence) → stands self.old e → stands self.new e }
-        ensures same_symbols { OnErr result (symbols self.new ≡ symbols self.old) }
-        ensures full { IfErr result (λ fault. OnFull fault (HasAllSymbols (path self.old) (symbols self.old))) };
+        ensures adds { (e : Evidence) → stands self.new e → stands self.old e }
+        ensures ended { ended self.new ≡ ended self.old }
+        ensures same_sorts { OnErr result (sorts self.new ≡ sorts self.old) }
+        ensures full { IfErr result (λ fault. OnFull fault (HasAllSymbols (path self.old) (sorts self.old))) };
 
     /// The turns taken are always the first of the turns among the decisions.
     ghost takes_first: { (a : Self) → AreTaken (turns a) (decisions a) };

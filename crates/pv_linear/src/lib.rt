@@ -15,7 +15,9 @@ mod terms;
 mod tests;
 
 pub use asker::{Added, AskFault, Asker};
-pub use asking::{ask_at_most, ask_same, make_symbol, question, take_turn};
+pub use asking::{
+    ask_at_most, ask_equal, ask_order, ask_same, ask_truth, make_symbol, question, take_turn,
+};
 use sqlite_items::Items;
 pub use terms::{MapId, TermPair, TermPairs, Terms};
 

@@ -3,12 +3,13 @@ use Rattle.std.proofs.Common.{◌≡◌, ℕ, zero, suc, ◌+◌, ◌-◌, ◌<�
 use Rattle.std.specs.Prelude.{slice_set, slice_index_or, max}
 use Rattle.pv_linear.specs.declared.Literal.{Literal}
 use Rattle.pv_linear.specs.Literal.{opposite}
-use Rattle.pv_linear.specs.Decisions.{Decision, fact, turn_is, literals_in}
+use Rattle.pv_linear.specs.Decisions.{Decision, fact, literals_in}
 use Rattle.pv_path.specs.declared.branch.Turn.TheVariants.{First, Second, Third}
 use Rattle.pv_path.specs.declared.branch.Branch.{Branch}
 use Rattle.pv_path.specs.declared.branch.Branch.TheVariants.{Open, Closed, Turned}
 use Rattle.pv_path.specs.Branches.{turn_number, decision_behind, decisions_behind, decisions_of, sides_at, sides_behind, sides_of, turned_over, AllClosed, IsTurnedOver, IsNextSide, branch_literals, branch_turns, Among}
 use Rattle.pv_path.specs.Standing.{span_of}
+pub use Rattle.pv_linear.proofs.DecisionLemmas.{literals_in-append}
 pub use Rattle.pv_path.specs.Taking.{turns_in-append, turns_of_decisions, AreNumbered-fact, AreNumbered-turn, numbered_behind}
 
 -- a member that is put last
@@ -44,11 +45,6 @@ sides_behind-append ds (x ∷ xs) ys =
     let es : List Decision = ds ++ decision_behind ds x ∷ [] in
     ap (λ ps. sides_at ds x ++ ps) (sides_behind-append es xs ys)
     ∙ sym (append_assoc (sides_at ds x) (sides_behind es xs) (sides_behind (decisions_behind es xs) ys))
-
-pub literals_in-append : (ds es : List Decision) → literals_in (ds ++ es) ≡ literals_in ds ++ literals_in es
-literals_in-append [] es = refl
-literals_in-append (fact l ∷ ds) es = ap (λ ls. l ∷ ls) (literals_in-append ds es)
-literals_in-append (turn_is k n ∷ ds) es = literals_in-append ds es
 
 -- the literals of the decisions are those of the branches
 pub literals_behind : (ds : List Decision) (bs : List Branch) → literals_in (decisions_behind ds bs) ≡ literals_in ds

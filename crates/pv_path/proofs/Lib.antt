@@ -1,8 +1,10 @@
 pub mod BranchLemmas
 pub mod LiteralLemmas
+pub mod OppositeLemmas
 pub mod OverLemmas
 pub mod PartsLemmas
 pub mod PathLemmas
+pub mod SideLemmas
 pub mod StandingLemmas
 pub mod TestLemmas
 pub mod TurnLemmas

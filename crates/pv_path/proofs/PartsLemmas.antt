@@ -3,28 +3,18 @@ use Rattle.std.proofs.Common.{◌≡◌, ℕ, zero, suc, ◌+◌, ◌<◌, List,
 use Rattle.std.specs.Prelude.{slice_index}
 use Rattle.pv_linear.specs.declared.Literal.{Literal}
 use Rattle.pv_linear.specs.Literal.{Meets, opposite}
-use Rattle.pv_linear.specs.Evidence.{Evidence, Follows}
-use Rattle.pv_linear.specs.Decisions.{Decision, fact, turn_is, On, Agrees, turns_in}
+use Rattle.pv_linear.specs.Evidence.{Evidence, HasTurns, Follows}
+use Rattle.pv_linear.specs.Decisions.{Decision, fact, turn_is, Agrees, turns_in}
+use Rattle.pv_linear.proofs.DecisionLemmas.{Agrees-front, Agrees-last, agreed_meets}
 use Rattle.pv_linear.proofs.MeetsLemmas.{opposite_holds, opposite_denies}
 use Rattle.pv_linear.proofs.Pairs.{Agrees-append-one, holds_or, kept_turn}
 use Rattle.pv_path.specs.declared.branch.Turn.TheVariants.{First, Second, Third}
 use Rattle.pv_path.specs.declared.branch.Branch.{Branch}
 use Rattle.pv_path.specs.declared.branch.Branch.TheVariants.{Open, Closed, Turned}
 use Rattle.pv_path.specs.Branches.{with_turn, decision_behind, decisions_behind, decisions_of, sides_at, sides_behind, sides_of, IsTurnedOver, branch_literals, branch_turns, Among}
-use Rattle.pv_path.specs.Standing.{HasTurns, StandsAmong, Stands, AreApart, AllApart, IsSideOf, opposite_of, later_than, Narrowed}
-use Rattle.pv_path.proofs.BranchLemmas.{decisions_more, sides_more, next_part, among_either, literals_of_decisions, turns_of_decisions, numbered_behind}
-use Rattle.pv_path.proofs.StandingLemmas.{agreed_meets}
+use Rattle.pv_path.specs.Standing.{StandsAmong, Stands, AreApart, AllApart, IsSideOf, opposite_of, later_than, Narrowed}
+use Rattle.pv_path.proofs.BranchLemmas.{decisions_more, sides_more, next_part, among_right, among_either, literals_of_decisions, turns_of_decisions, numbered_behind}
 use Rattle.pv_path.proofs.PathLemmas.{meets_wider}
-
-pub Agrees-front : (e : Evidence) (xs ys : List Decision) → Agrees e (xs ++ ys) → Agrees e xs
-unfolding Agrees
-Agrees-front e [] ys h = tt
-Agrees-front e (x ∷ xs) ys h = (h.0, Agrees-front e xs ys h.1)
-
-pub Agrees-last : (e : Evidence) (xs : List Decision) (d : Decision) → Agrees e (xs ++ d ∷ []) → On e d
-unfolding Agrees
-Agrees-last e [] d h = h.0
-Agrees-last e (x ∷ xs) d h = Agrees-last e xs d h.1
 
 Agrees-none : (e : Evidence) → Agrees e []
 unfolding Agrees
@@ -286,3 +276,9 @@ side_of ds (b ∷ bs) part h = elim (among_either (sides_at ds b) (sides_behind 
       side_at ds b q.0 _ part (q.1 ∙ append_assoc ds (decision_behind ds b ∷ []) q.0) k)
   | inr k ↦ side_of (ds ++ decision_behind ds b ∷ []) bs part k
 ]
+
+-- the next path is a side of the one before
+pub next_side_of : (old new : List Branch) → IsTurnedOver old new → IsSideOf (decisions_of old) (decisions_of new)
+next_side_of old new o = side_of [] old (decisions_of new)
+    (subst (λ (ps : List (List Decision)). Among ps (decisions_of new)) (sym (next_part old new o))
+    (among_right (sides_of new) (decisions_of new ∷ []) (decisions_of new) (inl refl)))

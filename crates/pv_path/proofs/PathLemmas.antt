@@ -289,7 +289,13 @@ narrowed_none n ls asked e a = subst (λ (xs : List Literal). ∥ Narrowed (take
 pub opposite_missing : (v : Values) (l : Literal) → (Holds v (opposite l) → ⊥) → Holds v l
 opposite_missing v l h = elim (holds_or v l true) [ inl k ↦ k | inr n ↦ absurd (h (opposite_holds v l n)) ]
 
--- an answer that the second part of the path has is an answer of the path
+-- an answer that a part of the path has is an answer of the path
+pub known_left : (xs ys : List Literal) (l : Literal) (found : Option Bool)
+    → IfSome found (λ told. (v : Values) → Meets v xs → Holds v (answered l told))
+    → IfSome found (λ told. (v : Values) → Meets v (xs ++ ys) → Holds v (answered l told))
+known_left xs ys l (Some told) h = λ v m. h v (Meets-left v xs ys m)
+known_left xs ys l None h = tt
+
 pub known_right : (xs ys : List Literal) (l : Literal) (found : Option Bool)
     → IfSome found (λ told. (v : Values) → Meets v ys → Holds v (answered l told))
     → IfSome found (λ told. (v : Values) → Meets v (xs ++ ys) → Holds v (answered l told))

@@ -1,15 +1,14 @@
 -- What stands in the parts.
-use Rattle.std.proofs.Common.{◌≡◌, ℕ, zero, suc, pos, ◌-ℤ◌, ◌+◌, ◌<◌, ◌≤◌, List, [], ◌∷◌, ◌++◌, length, take, Some, Bool, true, false, cond, refl, ap, sym, subst, ◌∙◌, ◌⊎◌, inl, inr, arith, append-nil, slice_get}
-use Rattle.std.specs.Prelude.{slice_index}
+use Rattle.std.proofs.Common.{◌≡◌, ℕ, zero, suc, pos, ◌-ℤ◌, ◌<◌, ◌≤◌, List, [], ◌∷◌, ◌++◌, length, take, Some, Bool, true, false, cond, refl, ap, sym, subst, ◌∙◌, ◌⊎◌, inl, inr, arith, append-nil, slice_get}
 use Rattle.std.proofs.Math.Logic.{∥∥₁_map}
 use Rattle.std.proofs.Math.Seq.{take-append_seam}
 use Rattle.std.proofs.lemmas.Int.{ints}
 use Rattle.pv_linear.specs.declared.Literal.{Literal}
 use Rattle.pv_linear.specs.declared.Literal.TheVariants.{AtMost, Same, Differ}
-use Rattle.pv_linear.specs.Values.{Values}
-use Rattle.pv_linear.specs.Literal.{Meets, opposite, IsBounded, bound_of_all}
-use Rattle.pv_linear.specs.Evidence.{Evidence, CanBeMet}
-use Rattle.pv_linear.specs.Decisions.{Decision, fact, turn_is, Agrees, turns_in, literals_in, AreNumbered}
+use Rattle.pv_linear.specs.Literal.{opposite, IsBounded, bound_of_all}
+use Rattle.pv_linear.specs.Evidence.{evidence_of, CanBeMet}
+use Rattle.pv_linear.specs.Decisions.{Decision, fact, turn_is, AllBelow, turns_in, literals_in, AreNumbered}
+use Rattle.pv_linear.proofs.DecisionLemmas.{AllBelow-more, meets_agrees, agreed_meets}
 use Rattle.pv_linear.proofs.MeetsLemmas.{Meets-left}
 use Rattle.pv_linear.proofs.Bounds.{bound_of_bounded, bound_of_all-append}
 use Rattle.pv_path.specs.declared.branch.Turn.{Turn}
@@ -17,18 +16,8 @@ use Rattle.pv_path.specs.declared.branch.Turn.TheVariants.{First, Second, Third}
 use Rattle.pv_path.specs.declared.branch.Branch.{Branch}
 use Rattle.pv_path.specs.declared.branch.Branch.TheVariants.{Open, Closed, Turned}
 use Rattle.pv_path.specs.Branches.{turn_number, with_turn, decision_behind, decisions_of, sides_at, sides_of, parts_of, IsTurnedOver, branch_literals, branch_turns, Among}
-use Rattle.pv_path.specs.Standing.{evidence_of, CanStand, AreUndecided, IsOpen, span_of}
+use Rattle.pv_path.specs.Standing.{CanStand, AreUndecided, IsOpen, span_of}
 use Rattle.pv_path.proofs.BranchLemmas.{literals_in-append, turns_in-append, literals_of_decisions, turns_of_decisions, AreNumbered-fact, AreNumbered-turn, numbered_behind, decisions_more, sides_more, among_left, among_right, among_either, next_part, branch_literals-append, span_of-append}
-
--- all numbers are below 3
-abbrev pub AllBelow : List ℕ → Type 0
-AllBelow ns = (k : ℕ) → slice_index ns k < 3
-
-below_more : (ns : List ℕ) (n : ℕ) → AllBelow ns → n < 3 → AllBelow (ns ++ n ∷ [])
-below_more [] n h lt zero = lt
-below_more [] n h lt (suc k) = omega arith
-below_more (m ∷ ns) n h lt zero = h zero
-below_more (m ∷ ns) n h lt (suc k) = below_more ns n (λ j. h (suc j)) lt k
 
 turn_below : (t : Turn) → turn_number t < 3
 turn_below First = omega arith
@@ -42,33 +31,13 @@ turns_below (Closed l ∷ bs) k = turns_below bs k
 turns_below (Turned t ∷ bs) zero = turn_below t
 turns_below (Turned t ∷ bs) (suc k) = turns_below bs k
 
--- numbers that meet the literals of numbered decisions agree with them, with the turns that stand there
-agrees_from : (v : Values) (ts : List ℕ) (k : ℕ) (ds : List Decision) → AreNumbered k ds → Meets v (literals_in ds)
-    → ((j : ℕ) → j < length (turns_in ds) → slice_index ts (k + j) ≡ slice_index (turns_in ds) j) → Agrees (evidence_of v ts) ds
-unfolding Agrees
-agrees_from v ts k [] a m t = tt
-agrees_from v ts k (fact l ∷ ds) a m t = (m.0, agrees_from v ts k ds a m.1 t)
-agrees_from v ts k (turn_is i n ∷ ds) a m t =
-    let z : k + 0 ≡ k = omega arith in
-    let here : slice_index ts k ≡ n = subst (λ (q : ℕ). slice_index ts q ≡ n) z (t 0 (omega arith)) in (
-      subst (λ (q : ℕ). slice_index ts q ≡ n) (sym a.0) here,
-      agrees_from v ts (suc k) ds a.1 m (λ j lt. let s : k + suc j ≡ suc k + j = omega arith in
-          subst (λ (q : ℕ). slice_index ts q ≡ slice_index (turns_in ds) j) s (t (suc j) (omega (arith, lt)))),
-    )
-
-pub agreed_meets : (e : Evidence) (ds : List Decision) → Agrees e ds → Meets e.values (literals_in ds)
-unfolding Agrees
-agreed_meets e [] h = tt
-agreed_meets e (fact l ∷ ds) h = (h.0, agreed_meets e ds h.1)
-agreed_meets e (turn_is k n ∷ ds) h = agreed_meets e ds h.1
-
 -- something stands where the literals can be met
 pub stands_where_met : (ds : List Decision) → AreNumbered 0 ds → AllBelow (turns_in ds) → CanBeMet (literals_in ds) → CanStand ds
 stands_where_met ds a b met = ∥∥₁_map met (λ s. record {
   values = s.values;
   turns = turns_in ds;
   below = b;
-  agrees = agrees_from s.values (turns_in ds) 0 ds a s.meets (λ j lt. let z : 0 + j ≡ j = omega arith in rw z refl);
+  agrees = meets_agrees s.values ds a s.meets;
 })
 
 pub met_where_stands : (ds : List Decision) → CanStand ds → CanBeMet (literals_in ds)
@@ -100,7 +69,7 @@ turn_stands bs n lt met =
     stands_where_met (ds ++ d ∷ [])
     (AreNumbered-turn 0 ds (length (turns_in ds)) n (omega arith) (numbered_behind [] bs tt))
     (subst AllBelow (sym (turns_in-append ds (d ∷ []) ∙ ap (λ ns. ns ++ n ∷ []) (turns_of_decisions bs)))
-    (below_more (branch_turns bs) n (turns_below bs) lt))
+    (AllBelow-more (branch_turns bs) n (turns_below bs) lt))
     (subst CanBeMet (sym (literals_in-append ds (d ∷ []) ∙ append-nil (literals_in ds) ∙ literals_of_decisions bs)) met)
 
 -- something stands in each part after one more branch, where it does in the new parts

@@ -1,22 +1,23 @@
 -- Paths of differences alone, which the tests walk.
-use Rattle.std.proofs.Common.{◌≡◌, ℕ, ℤ, suc, List, [], ◌∷◌, ◌++◌, Bool, true, false, Some, ap, sym, subst, ◌∙◌, inl, inr}
+use Rattle.std.proofs.Common.{◌≡◌, ℕ, ℤ, suc, List, [], ◌∷◌, ◌++◌, Bool, true, false, ap, sym, subst, ◌∙◌, inl, inr, append-nil}
 use Rattle.pv_linear.specs.declared.Symbol.{Symbol}
 use Rattle.pv_linear.specs.declared.Literal.{Literal}
 use Rattle.pv_linear.specs.declared.Literal.TheVariants.{AtMost, Same, Differ}
 use Rattle.pv_linear.specs.Literal.{opposite}
 use Rattle.pv_linear.specs.Sorting.{IsNumberAmong, IsReferenceAmong}
 use Rattle.pv_linear.specs.Evidence.{MayAsk, answered}
-use Rattle.pv_linear.specs.Decisions.{Decision, fact, literals_in, Decides, added, entailed, DecidesTurn, turned_to, kept}
+use Rattle.pv_linear.specs.Decisions.{Decision, fact, turn_is, literals_in, Decides, added, entailed, DecidesTurn, turned_to, kept}
 use Rattle.pv_diff.specs.Parts.{AllAtMost, IsAtMost}
-use Rattle.pv_path.specs.declared.branch.Turn.TheVariants.{First, Second, Third}
-use Rattle.pv_path.specs.declared.branch.Branch.{Branch}
-use Rattle.pv_path.specs.declared.branch.Branch.TheVariants.{Open, Closed, Turned}
-use Rattle.pv_path.specs.Branches.{decisions_of, branch_literals, turned_over, IsTurnedOver}
-use Rattle.pv_path.proofs.BranchLemmas.{literals_in-append, literals_of_decisions, branch_literals-append}
+use Rattle.pv_path.specs.Standing.{IsSideOf, opposite_of, later_than}
+use Rattle.pv_path.proofs.BranchLemmas.{literals_in-append}
 
 more : (ls : List Literal) (l : Literal) → AllAtMost ls → IsAtMost l → AllAtMost (ls ++ l ∷ [])
 more [] l h k = (k, tt)
 more (x ∷ xs) l h k = (h.0, more xs l h.1 k)
+
+right : (xs ys : List Literal) → AllAtMost (xs ++ ys) → AllAtMost ys
+right [] ys h = h
+right (x ∷ xs) ys h = right xs ys h.1
 
 front : (xs ys : List Literal) → AllAtMost (xs ++ ys) → AllAtMost xs
 front [] ys h = tt
@@ -59,38 +60,18 @@ differences_turned turns old new n (turned_to all e) h =
     none (l ∷ ls) m = (m.0, none ls m.1)
 differences_turned turns old new n (kept there e) h = subst AllAtMost (sym (ap literals_in e)) h
 
-turned : (last other : Branch) → turned_over last ≡ Some other → AllAtMost (branch_literals (last ∷ []))
-    → AllAtMost (branch_literals (other ∷ []))
-turned (Open (AtMost x y c)) other e h = let s : Closed (opposite (AtMost x y c)) ≡ other = cc e in
-    subst (λ (b : Branch). AllAtMost (branch_literals (b ∷ []))) s (tt, tt)
-turned (Open (Same x y)) other e h = absurd h.0
-turned (Open (Differ x y)) other e h = absurd h.0
-turned (Closed l) other e h = cc e
-turned (Turned First) other e h = let s : Turned Second ≡ other = cc e in
-    subst (λ (b : Branch). AllAtMost (branch_literals (b ∷ []))) s tt
-turned (Turned Second) other e h = let s : Turned Third ≡ other = cc e in
-    subst (λ (b : Branch). AllAtMost (branch_literals (b ∷ []))) s tt
-turned (Turned Third) other e h = cc e
-
-right : (xs ys : List Literal) → AllAtMost (xs ++ ys) → AllAtMost ys
-right [] ys h = h
-right (x ∷ xs) ys h = right xs ys h.1
-
-both : (xs ys : List Literal) → AllAtMost xs → AllAtMost ys → AllAtMost (xs ++ ys)
-both [] ys h k = k
-both (x ∷ xs) ys h k = (h.0, both xs ys h.1 k)
-
-pub differences_over : (old new : List Branch) → IsTurnedOver old new → AllAtMost (literals_in (decisions_of old))
-    → AllAtMost (literals_in (decisions_of new))
-differences_over old new o h =
-    let were : AllAtMost (branch_literals o.kept ++ branch_literals (o.last ∷ o.gone)) =
-    subst AllAtMost (literals_of_decisions old ∙ ap branch_literals o.were ∙ branch_literals-append o.kept (o.last ∷ o.gone))
-    h in
-    let last : AllAtMost (branch_literals (o.last ∷ [])) =
-    front (branch_literals (o.last ∷ [])) (branch_literals o.gone)
-    (subst AllAtMost (branch_literals-append (o.last ∷ []) o.gone) (right (branch_literals o.kept) _ were)) in
-    subst AllAtMost (sym (literals_of_decisions new ∙ ap branch_literals o.are ∙ branch_literals-append o.kept (o.other ∷ [])))
-    (both (branch_literals o.kept) _ (front (branch_literals o.kept) _ were) (turned o.last o.other o.over last))
+pub differences_over : (ds part : List Decision) → IsSideOf ds part → AllAtMost (literals_in ds) → AllAtMost (literals_in part)
+differences_over ds part (opposite_of xs ys l e f) h = subst AllAtMost
+    (sym (ap literals_in f ∙ literals_in-append xs (fact (opposite l) ∷ []))) (go l (subst AllAtMost
+    (ap literals_in e ∙ literals_in-append xs (fact l ∷ ys)) h))
+  where
+    go : (l : Literal) → AllAtMost (literals_in xs ++ l ∷ literals_in ys) → AllAtMost (literals_in xs ++ opposite l ∷ [])
+    go (AtMost x y c) k = more (literals_in xs) (opposite (AtMost x y c)) (front (literals_in xs) _ k) tt
+    go (Same x y) k = absurd (right (literals_in xs) _ k).0
+    go (Differ x y) k = absurd (right (literals_in xs) _ k).0
+differences_over ds part (later_than xs ys k m n e lt below f) h = subst AllAtMost
+    (sym (ap literals_in f ∙ literals_in-append xs (turn_is k n ∷ []) ∙ append-nil (literals_in xs)))
+    (front (literals_in xs) (literals_in ys) (subst AllAtMost (ap literals_in e ∙ literals_in-append xs (turn_is k m ∷ ys)) h))
 
 -- the first question may be any
 pub first_may_ask : (path : List Literal) (x y : Symbol) (c : ℤ) → path ≡ [] → MayAsk path (AtMost x y c)

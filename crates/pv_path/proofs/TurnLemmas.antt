@@ -3,6 +3,7 @@ use Rattle.std.proofs.Common.{◌≡◌, ℕ, zero, suc, ◌+◌, ◌<◌, ◌�
 use Rattle.std.proofs.Math.Seq.{take-length}
 use Rattle.std.proofs.lemmas.List.{length-take-le}
 use Rattle.std.proofs.lemmas.Option.{slice_get_within}
+use Rattle.pv_linear.specs.declared.Sort.{Sort}
 use Rattle.pv_linear.specs.declared.Literal.{Literal}
 use Rattle.pv_linear.specs.Values.{Values}
 use Rattle.pv_linear.specs.Literal.{Holds, Meets, opposite}
@@ -59,11 +60,11 @@ pub path_met : (bs : List Branch) (path ls : List Literal) → ls ≡ branch_lit
 path_met bs path ls e h n = subst CanBeMet (append-nil path)
     (met_wider path ls [] n (subst CanBeMet (sym (append-nil ls)) (subst CanBeMet (sym e) (met_of_possible bs h))))
 
-pub all_symbols : (bs : List Branch) (path ls : List Literal) (symbols : ℕ) → ls ≡ branch_literals bs
-    → ((part : List Decision) → Among (parts_of bs) part → CanStand part) → ∥ Narrowed path ls ∥₁ → symbols ≡ 4294967294
-    → HasAllSymbols path symbols
+pub all_symbols : (bs : List Branch) (path ls : List Literal) (sorts : List Sort) → ls ≡ branch_literals bs
+    → ((part : List Decision) → Among (parts_of bs) part → CanStand part) → ∥ Narrowed path ls ∥₁ → length sorts ≡ 4294967294
+    → HasAllSymbols path sorts
 unfolding HasAllSymbols
-all_symbols bs path ls symbols e h n is = (path_met bs path ls e h n, omega (arith, is))
+all_symbols bs path ls sorts e h n is = (path_met bs path ls e h n, omega (arith, is))
 
 -- one more of the kept turns is taken
 pub take_more : (xs : List ℕ) (k x : ℕ) → slice_get xs k ≡ Some x → take (k + 1) xs ≡ take k xs ++ x ∷ []

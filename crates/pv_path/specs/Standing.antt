@@ -4,20 +4,12 @@ use Rattle.pv_linear.specs.declared.Literal.{Literal}
 use Rattle.pv_linear.specs.declared.Literal.TheVariants.{AtMost, Same, Differ}
 use Rattle.pv_linear.specs.Values.{Values}
 use Rattle.pv_linear.specs.Literal.{Holds, Meets, opposite, bound_of}
-use Rattle.pv_linear.specs.Evidence.{Evidence, CanBeMet, answered}
+use Rattle.pv_linear.specs.Evidence.{Evidence, HasTurns, evidence_of, CanBeMet, answered}
 use Rattle.pv_linear.specs.Decisions.{Decision, fact, turn_is, Agrees}
 use Rattle.pv_path.specs.declared.branch.Branch.{Branch}
 use Rattle.pv_path.specs.declared.literals.Settled.{Settled}
 use Rattle.pv_path.specs.declared.literals.Settled.TheVariants.{Told, Undecided}
 use Rattle.pv_path.specs.Branches.{parts_of, Among}
-
--- there are three turns
-abbrev pub HasTurns : Evidence → Type 0
-HasTurns e = (k : ℕ) → e.turns k < 3
-
--- the evidence that has these numbers and these turns, and then zeros
-abbrev pub evidence_of : Values → List ℕ → Evidence
-evidence_of values turns = record { values = values; turns = λ k. slice_index turns k }
 
 -- numbers with a list of turns below 3 that stand in a list of decisions
 pub record Standing (ds : List Decision) : Type 0 where

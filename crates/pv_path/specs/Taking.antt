@@ -1,17 +1,12 @@
 -- The turns taken are the first of the turns among the decisions: a law of paths, with what proves it.
-use Rattle.std.specs.Prelude.{ℕ, suc, ◌+◌, ◌≡◌, List, [], ◌∷◌, ◌++◌, length, take, drop, refl}
+use Rattle.std.specs.Prelude.{ℕ, ◌≡◌, List, [], ◌∷◌, ◌++◌, length, take, drop}
 use Rattle.std.proofs.Common.{ap, sym, ◌∙◌, arith, append_assoc, append-nil}
 use Rattle.std.proofs.lemmas.List.{take-append-drop}
-use Rattle.pv_linear.specs.declared.Literal.{Literal}
-use Rattle.pv_linear.specs.Decisions.{Decision, fact, turn_is, turns_in, AreNumbered, AreTaken}
+pub use Rattle.pv_linear.proofs.DecisionLemmas.{turns_in-append, AreNumbered-fact, AreNumbered-turn}
+use Rattle.pv_linear.specs.Decisions.{Decision, fact, turns_in, AreNumbered, AreTaken}
 use Rattle.pv_path.specs.declared.branch.Branch.{Branch}
 use Rattle.pv_path.specs.declared.branch.Branch.TheVariants.{Open, Closed, Turned}
 use Rattle.pv_path.specs.Branches.{turn_number, decision_behind, decisions_behind, decisions_of, branch_turns}
-
-pub turns_in-append : (ds es : List Decision) → turns_in (ds ++ es) ≡ turns_in ds ++ turns_in es
-turns_in-append [] es = refl
-turns_in-append (fact l ∷ ds) es = turns_in-append ds es
-turns_in-append (turn_is k n ∷ ds) es = ap (λ ns. n ∷ ns) (turns_in-append ds es)
 
 -- the turns of the decisions are those of the branches
 pub turns_behind : (ds : List Decision) (bs : List Branch) → turns_in (decisions_behind ds bs) ≡ turns_in ds ++ branch_turns bs
@@ -28,17 +23,6 @@ pub turns_of_decisions : (bs : List Branch) → turns_in (decisions_of bs) ≡ b
 turns_of_decisions bs = turns_behind [] bs
 
 -- the turns of the decisions are numbered from 0
-pub AreNumbered-fact : (k : ℕ) (ds : List Decision) (l : Literal) → AreNumbered k ds → AreNumbered k (ds ++ fact l ∷ [])
-AreNumbered-fact k [] l h = tt
-AreNumbered-fact k (fact m ∷ ds) l h = AreNumbered-fact k ds l h
-AreNumbered-fact k (turn_is j n ∷ ds) l h = (h.0, AreNumbered-fact (suc k) ds l h.1)
-
-pub AreNumbered-turn : (k : ℕ) (ds : List Decision) (j n : ℕ) → j ≡ k + length (turns_in ds) → AreNumbered k ds
-    → AreNumbered k (ds ++ turn_is j n ∷ [])
-AreNumbered-turn k [] j n e h = (omega (arith, e), tt)
-AreNumbered-turn k (fact m ∷ ds) j n e h = AreNumbered-turn k ds j n e h
-AreNumbered-turn k (turn_is i m ∷ ds) j n e h = (h.0, AreNumbered-turn (suc k) ds j n (omega (arith, e)) h.1)
-
 pub numbered_behind : (ds : List Decision) (bs : List Branch) → AreNumbered 0 ds → AreNumbered 0 (decisions_behind ds bs)
 numbered_behind ds [] h = h
 numbered_behind ds (Open l ∷ bs) h = numbered_behind _ bs (AreNumbered-fact 0 ds l h)

@@ -1,10 +1,12 @@
 //! Decisions, and what is open of them.
 
-ghost use Rattle.std.specs.Prelude.{◌≡◌, ◌<◌, ◌+◌, ◌≤◌, ◌^◌, IfNone, IfSome, length, take, [], ◌∷◌, ◌++◌, slice_get, Some, None};
+ghost use Rattle.std.specs.Prelude.{◌≡◌, ◌<◌, ◌+◌, ◌≤◌, ◌^◌, IfNone, IfSome, IfOk, OnOk, length, take, [], ◌∷◌, ◌++◌, slice_get, Some, None};
 ghost use Rattle.pv_path.specs.Branches.{turn_number, turned_over, branch_literals, branch_turns, AllClosed, IsNextSide};
 ghost use Rattle.pv_path.specs.Standing.{span_of};
 
+use pv_base::NoMemory;
 use pv_linear::Literal;
+use std::alloc::Global;
 
 /// One of the three turns. A path takes them in this order.
 #[derive(Clone, Copy, PartialEq, Eq, Debug, Drop)]
@@ -74,6 +76,30 @@ pub fn turn_at(branches: &[Branch], at: usize) -> Option<Turn>
         }
     }
     None
+}
+
+/// One more turn, where the decision is one.
+fn add_turn(turns: &mut Vec<u32>, branch: Branch) -> Result<(), NoMemory>
+    ensures { OnOk result (turns.new.items ≡ turns.old.items ++ branch_turns (branch ∷ [])) }
+{
+    match branch {
+        Branch::Open(_) | Branch::Closed(_) => Ok(()),
+        Branch::Turned(turn) => {
+            turns.push(turn.number())?;
+            Ok(())
+        }
+    }
+}
+
+/// The turns among the decisions, by their numbers.
+pub fn turns_of(alloc: Global, branches: &[Branch]) -> Result<Vec<u32>, NoMemory>
+    ensures { IfOk result (λ turns. turns.items ≡ branch_turns branches.now) }
+{
+    let mut turns = Vec::new(alloc);
+    for branch in branches {
+        add_turn(&mut turns, *branch)?;
+    }
+    Ok(turns)
 }
 
 /// How many literals there are among the decisions.

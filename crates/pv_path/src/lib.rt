@@ -16,5 +16,5 @@ mod tests;
 
 pub use branch::{Branch, Side, Turn};
 pub use choices::Choices;
-pub use laws::parts_stand;
+pub use laws::{opposites_stand, parts_stand};
 pub use path::{Next, Path};

@@ -45,6 +45,23 @@ pub fn known(literals: &[Literal], literal: Literal) -> Option<bool>
     None
 }
 
+/// The answer that the literal at a place has, where one stands there and it is this one or its opposite.
+#[tactic(auto, using(crate::proofs::LiteralLemmas::meets_at))]
+pub fn known_at(literals: &[Literal], at: usize, literal: Literal) -> Option<bool>
+    requires { IsBounded (2 ^ 126) literal }
+    ensures { IfSome result (λ told. (v : Values) → Meets v literals.now → Holds v (answered literal told)) }
+{
+    if at < literals.len() {
+        if is_same(&literals[at], &literal) {
+            return Some(true);
+        }
+        if is_same(&literals[at], &literal.opposite()) {
+            return Some(false);
+        }
+    }
+    None
+}
+
 /// The highest number of a symbol in the literal.
 pub fn highest_symbol(literal: Literal) -> u32
     ensures { result ≡ highest_in literal }
@@ -145,6 +162,5 @@ pub fn can_be_added(alloc: Global, literals: &[Literal], last: Literal) -> Resul
     ensures yes { IfOk result (λ told. told ≡ true → CanBeMet (literals.now ++ last ∷ [])) }
 {
     let all = with_one(alloc, literals, last)?;
-    let told = can_be_met(alloc, &all)?;
-    Ok(told)
+    can_be_met(alloc, &all)
 }

@@ -7,9 +7,10 @@ ghost use Rattle.pv_path.specs.Paths.{path_of, decisions};
 
 use crate::{Next, Path};
 use pv_linear::{
-    AskFault, Asker, Literal, Sort, Symbol, Term, ask_at_most, ask_same, make_symbol, question,
-    take_turn,
+    AskFault, Asker, Literal, Sort, Symbol, Term, ask_at_most, ask_equal, ask_order, ask_same,
+    ask_truth, make_symbol, question, take_turn,
 };
+use std::cmp::Ordering;
 use std::test::Fail;
 
 /// Which side of three questions and a turn a path takes, as a number below 24.
@@ -28,7 +29,6 @@ fn leaf(path: &mut Path) -> Result<usize, AskFault>
 }
 
 /// Goes to the next path.
-#[tactic(auto, using(crate::proofs::TestLemmas::differences_over))]
 fn go_on(path: &mut Path) -> bool
     requires decisions { AllAtMost (literals_in (decisions path.old)) }
     ensures path { result ≡ true → AllAtMost (path_of path.new) }
@@ -113,13 +113,26 @@ fn questions_once(rt: HostRuntime) -> Result<(), Fail> {
     };
     assert!(rt; ask_at_most(term, Term::constant(7), &mut Path::new(rt.alloc()))?);
     assert!(rt; ask_same(Symbol(1), Symbol(2), &mut Path::new(rt.alloc()))?);
+    assert!(rt; ask_truth(Symbol(1), &mut Path::new(rt.alloc()))?);
+    assert!(rt; !ask_truth(Symbol::ZERO, &mut Path::new(rt.alloc()))?);
+    let seven = Term::constant(7);
+    assert_eq!(rt;
+        ask_order(term, seven, &mut Path::new(rt.alloc()))?,
+        Ordering::Equal
+    );
+    assert_eq!(rt;
+        ask_order(Term::constant(6), seven, &mut Path::new(rt.alloc()))?,
+        Ordering::Less
+    );
+    assert!(rt; !ask_equal(Term::constant(8), seven, &mut Path::new(rt.alloc()))?);
     let mut path = Path::new(rt.alloc());
     assert_eq!(rt; take_turn(&mut path)?, 0);
     assert_eq!(rt; make_symbol(Sort::Number, &mut path)?, Symbol(1));
     assert_eq!(rt; make_symbol(Sort::Reference, &mut path)?, Symbol(2));
     assert_eq!(rt; path.next_path(), Next::More);
     assert_eq!(rt; take_turn(&mut path)?, 1);
-    assert_eq!(rt; make_symbol(Sort::Number, &mut path)?, Symbol(1));
+    assert_eq!(rt; path.decided_turns(rt.alloc())?.as_slice(), [1].as_slice());
+    assert_eq!(rt; make_symbol(Sort::Truth, &mut path)?, Symbol(1));
     Ok(())
 }
 

@@ -12,7 +12,7 @@ invariant_of-result c =
       narrowed = narrowed_none 0 _ _ (c.new.result.same ∙ ap branch_literals bs) c.new-2.ensures.items;
       fits = omega arith;
       few = omega arith;
-      numbered = omega arith;
+      numbered = rw c.new-3.ensures.items (omega arith);
     }
 
 pub returns-clause-stands : goal.returns-clause-stands

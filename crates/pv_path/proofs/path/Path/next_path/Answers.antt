@@ -1,7 +1,7 @@
 use Rattle.std.proofs.Common.{◌≡◌, [], arith, sym, ◌∙◌, length}
 use Rattle.pv_path.proofs.BranchLemmas.{closed_sides, next_part, literals_of_decisions}
 use Rattle.pv_path.proofs.PathLemmas.{path_kept, narrowed_kept_as, side_open}
-use Rattle.pv_path.proofs.PartsLemmas.{stands_over}
+use Rattle.pv_path.proofs.PartsLemmas.{stands_over, next_side_of}
 use Rattle.pv_path.proofs.path.Path.next_path.Goals as goal
 
 pub returns-in_default-clause-done : goal.returns-in_default-clause-done
@@ -23,7 +23,7 @@ invariant_of-self-2 c =
           c.turn_over.new.self.undecided;
       fits = omega arith;
       few = grind (arith, self.few, c.if-self-eq-MOST_PATHS.false);
-      numbered = omega arith;
+      numbered = rw c.clear-2.ensures.items (omega arith);
     }
 
 pub returns-clause-parts : goal.returns-clause-parts
@@ -38,3 +38,6 @@ returns-clause-path c = λ _.
     let kept : c.len-self.result ≡ length literals.items = omega (arith, c.len-self.ensures, literals.ok.0) in
     path_kept literals.items c.clear.new.self.items c.len-self.result kept c.clear.ensures.items ∙ c.self-1.given.0
     ∙ sym (literals_of_decisions c.turn_over.new.self.branches.items)
+
+pub returns-clause-side : goal.returns-clause-side
+returns-clause-side c = λ _. next_side_of _ _ c.turn_over.ensures
