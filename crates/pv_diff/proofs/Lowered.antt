@@ -6,6 +6,7 @@ use Rattle.std.proofs.lemmas.Option.{slice_get-get_or}
 use Rattle.std.proofs.Math.ListN.{length-set}
 use Rattle.std.proofs.lemmas.List.Sums.{sum_by-set}
 use Rattle.pv_linear.proofs.Bounds.{within_abs}
+use Rattle.pv_diff.specs.Limits.{too_many}
 use Rattle.pv_diff.specs.declared.table.Edge.{Edge}
 use Rattle.pv_diff.specs.declared.table.Entry.{Entry}
 use Rattle.pv_diff.specs.Edges.{edge, AllBelow, widest}
@@ -160,7 +161,7 @@ height-lowered ns x e h lt up low =
     omega (arith, a, b)
 
 -- a number that is not far below zero
-pub number_in-near : (es : List Edge) (ns : List Entry) (k : ℕ) → AreAbove es ns → length es < 2 ^ 20 → widest es ≤ 2 ^ 100
+pub number_in-near : (es : List Edge) (ns : List Entry) (k : ℕ) → AreAbove es ns → length es < too_many → widest es ≤ 2 ^ 100
     → pos 0 ≤ℤ (number_in ns k +ℤ pos (2 ^ 120))
 unfolding AreAbove
 number_in-near es ns k h few wide = let a = h k in let b = breadth-most es wide in omega (arith, ints, a, b)
@@ -171,7 +172,7 @@ number_in-down es ns k h = h.fallen k
 
 -- the slot of an edge that is not met is lowered to what the edge asks
 pub Lowers-made : (es : List Edge) (ns : List Entry) (q : ℕ) (d : Edge) (m : ℤ) → IsSound es ns → AreAbove es ns
-    → AllBelow (length ns) es → length es < 2 ^ 20 → widest es ≤ 2 ^ 100 → q < length es → m
+    → AllBelow (length ns) es → length es < too_many → widest es ≤ 2 ^ 100 → q < length es → m
     ≡ (number_in ns (slice_index_or es q d).from +ℤ (slice_index_or es q d).bound)
     → m <ℤ number_in ns (slice_index_or es q d).to
     → Lowers es ns (set ns (slice_index_or es q d).to (entry m q (slice_index_or es q d).from)) (slice_index_or es q d).to

@@ -3,6 +3,7 @@ use Rattle.std.proofs.Common.{◌≡◌, ℕ, zero, suc, ◌+◌, ◌-◌, ◌<�
 use Rattle.std.specs.Prelude.{cond, IfSome, IsSome}
 use Rattle.std.proofs.lemmas.Int.{ints}
 use Rattle.std.proofs.Math.Seq.{take-append_seam}
+use Rattle.pv_diff.specs.Limits.{too_many}
 use Rattle.pv_diff.specs.declared.table.Edge.{Edge}
 use Rattle.pv_diff.specs.declared.table.Entry.{Entry}
 use Rattle.pv_diff.specs.Edges.{edge, widest}
@@ -97,7 +98,7 @@ Gone-met back es old ns last i g le h = AreMet-each old es (edge 0 0 (pos 0)) (�
     subst (λ (j : ℕ). IsMet old (slice_index_or es j (edge 0 0 (pos 0)))) (place_at-place_at back (length es) k lt)
     (let fits = place_at-fits back (length es) k lt in g.met h (place_at back (length es) k) (omega (arith, fits))))
 
-pub Gone-last : (back : Bool) (es : List Edge) (old ns : List Entry) (last : Option ℕ) (i : ℕ) → length es < 2 ^ 20
+pub Gone-last : (back : Bool) (es : List Edge) (old ns : List Entry) (last : Option ℕ) (i : ℕ) → length es < too_many
     → widest es ≤ 2 ^ 100 → Gone back es old ns last i → IfSome last (λ x. Lowers es old ns x)
 unfolding AreAbove
 Gone-last back es old ns None i few wide g = tt

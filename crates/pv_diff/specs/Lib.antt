@@ -4,6 +4,7 @@ pub mod Classes
 pub mod Conflict
 pub mod Edges
 pub mod Forest
+pub mod Limits
 pub mod Lowest
 pub mod Numbering
 pub mod Parts

@@ -2,6 +2,7 @@
 
 ghost use Rattle.std.specs.Prelude.{◌≡◌, ℕ, ◌+◌, ◌^◌, ◌<◌, length, ◌↔◌, IfOk, OnOk};
 ghost use Rattle.std.specs.List.Sorted.{IsStrictlyIncreasing};
+ghost use Rattle.pv_diff.specs.Limits.{too_many};
 ghost use Rattle.pv_diff.specs.Chains.{AreChains, HasEnd, HasAlso, AreTied};
 ghost use Rattle.pv_diff.specs.Slots.{AreReferencesNamed};
 
@@ -63,7 +64,7 @@ impl Chains {
         place: usize,
     ) -> Result<(), NoMemory>
         requires place { place < length literals.now }
-        requires few { length literals.now < 2 ^ 20 }
+        requires few { length literals.now < too_many }
         requires fits { length symbols.now < 2 ^ 32 }
         requires rises { IsStrictlyIncreasing symbols.now }
         requires named { AreReferencesNamed symbols.now literals.now }
@@ -85,7 +86,7 @@ impl Chains {
 
 /// The chains of the equations among the literals, by the slots of their symbols.
 pub fn chains_of(alloc: Global, literals: &[Literal], symbols: &[u32]) -> Result<Chains, NoMemory>
-    requires few { length literals.now < 2 ^ 20 }
+    requires few { length literals.now < too_many }
     requires fits { length symbols.now < 2 ^ 32 }
     requires rises { IsStrictlyIncreasing symbols.now }
     requires named { AreReferencesNamed symbols.now literals.now }

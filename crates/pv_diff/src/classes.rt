@@ -2,6 +2,7 @@
 
 ghost use Rattle.std.specs.Prelude.{◌≡◌, ◌≢◌, ℕ, pos, ◌^◌, ◌<◌, ◌⊎◌, length, slice_get, slice_index_or, IfOk, IfNone, IfSome, Some};
 ghost use Rattle.std.specs.List.Sorted.{IsStrictlyIncreasing};
+ghost use Rattle.pv_diff.specs.Limits.{too_many};
 ghost use Rattle.pv_diff.specs.Chains.{IsTie};
 ghost use Rattle.pv_diff.specs.Forest.{HasRoot, IsSeen, seen_at, AreTrees};
 ghost use Rattle.pv_diff.specs.Classes.{IsSplit, class_at, IsClassed, AreNodes};
@@ -60,7 +61,7 @@ fn roots_of(alloc: Global, forest: &Forest) -> Result<Vec<usize>, NoMemory>
 /// The split at a place, if one stands there.
 fn split_at(literals: &[Literal], symbols: &[u32], classes: &[usize], place: usize) -> Option<Split>
     requires place { place < length literals.now }
-    requires few { length literals.now < 2 ^ 20 }
+    requires few { length literals.now < too_many }
     requires fits { length symbols.now < 2 ^ 32 }
     requires rises { IsStrictlyIncreasing symbols.now }
     requires named { AreReferencesNamed symbols.now literals.now }
@@ -88,7 +89,7 @@ fn split_at(literals: &[Literal], symbols: &[u32], classes: &[usize], place: usi
 
 /// The first split among the literals.
 fn split_in(literals: &[Literal], symbols: &[u32], classes: &[usize]) -> Option<Split>
-    requires few { length literals.now < 2 ^ 20 }
+    requires few { length literals.now < too_many }
     requires fits { length symbols.now < 2 ^ 32 }
     requires rises { IsStrictlyIncreasing symbols.now }
     requires named { AreReferencesNamed symbols.now literals.now }
@@ -107,7 +108,7 @@ fn split_in(literals: &[Literal], symbols: &[u32], classes: &[usize]) -> Option<
 
 /// The classes of the symbols, or a clash among the literals.
 pub fn classes_of(alloc: Global, literals: &[Literal], symbols: &[u32]) -> Result<Classed, NoMemory>
-    requires few { length literals.now < 2 ^ 20 }
+    requires few { length literals.now < too_many }
     requires fits { length symbols.now < 2 ^ 32 }
     requires rises { IsStrictlyIncreasing symbols.now }
     requires named { AreReferencesNamed symbols.now literals.now }

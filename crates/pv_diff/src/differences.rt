@@ -2,6 +2,7 @@
 
 ghost use Rattle.std.specs.Prelude.{◌≡◌, ◌+◌, ◌^◌, ◌<◌, ◌≤◌, length, slice_index_or, take, map, All, IfOk, OnOk};
 ghost use Rattle.pv_linear.specs.Literal.{bound_of_all};
+ghost use Rattle.pv_diff.specs.Limits.{too_many};
 ghost use Rattle.pv_diff.specs.Parts.{AllAtMost, IsPart};
 ghost use Rattle.pv_diff.specs.Lowest.{IsLowest};
 
@@ -31,7 +32,7 @@ impl Part {
     /// Adds the literal at a place, if it is a difference.
     fn add(&mut self, literals: &[Literal], place: usize) -> Result<(), NoMemory>
         requires place { place < length literals.now }
-        requires few { length literals.now < 2 ^ 20 }
+        requires few { length literals.now < too_many }
         requires part { IsPart literals.now (take place literals.now) self.old.differences.items self.old.places.items }
         ensures part { OnOk result (IsPart literals.now (take (place + 1) literals.now) self.new.differences.items self.new.places.items) }
     {
@@ -49,7 +50,7 @@ impl Part {
 
 /// The differences among the literals, with their places.
 pub fn differences_of(alloc: Global, literals: &[Literal]) -> Result<Part, NoMemory>
-    requires few { length literals.now < 2 ^ 20 }
+    requires few { length literals.now < too_many }
     ensures { IfOk result (λ part. IsPart literals.now literals.now part.differences.items part.places.items) }
 {
     let mut part = Part {
@@ -64,7 +65,7 @@ pub fn differences_of(alloc: Global, literals: &[Literal]) -> Result<Part, NoMem
 
 /// Numbers that meet the differences, or a cycle of them that adds up to less than zero. It fails for want of memory alone.
 pub fn settle_differences(alloc: Global, differences: &[Literal]) -> Result<Lowest, NoMemory>
-    requires few { length differences.now < 2 ^ 20 }
+    requires few { length differences.now < too_many }
     requires bounds { bound_of_all differences.now ≤ 2 ^ 100 }
     requires differences { AllAtMost differences.now }
     ensures { IfOk result (λ found. IsLowest differences.now found) }

@@ -13,6 +13,7 @@ ghost use Rattle.std.specs.Prelude.{◌^◌, ◌*◌, ◌+◌, ◌<◌, ◌≤�
 ghost use Rattle.std.specs.List.Sorted.{IsStrictlyIncreasing};
 ghost use Rattle.pv_linear.specs.Literal.{bound_of_all};
 ghost use Rattle.pv_linear.specs.Sorting.{AreSortsApart};
+ghost use Rattle.pv_diff.specs.Limits.{too_many};
 ghost use Rattle.pv_diff.specs.Classes.{AreClasses};
 ghost use Rattle.pv_diff.specs.Slots.{AreOnlyReferences, AreReferencesNamed};
 ghost use Rattle.pv_diff.specs.Answer.{IsAnswer, IsNear, IsSigned, DeniesAll};
@@ -61,7 +62,7 @@ fn numbered(
     references: &[u32],
     classes: &[usize],
 ) -> Result<Solved, NoMemory>
-    requires few { length literals.now < 2 ^ 20 }
+    requires few { length literals.now < too_many }
     requires bounds { bound_of_all literals.now ≤ 2 ^ 100 }
     requires sorts { AreSortsApart literals.now }
     requires rises { IsStrictlyIncreasing references.now }
@@ -90,7 +91,7 @@ fn numbered(
 /// Numbers that meet all literals, none far from zero and none below it but those of symbols in differences; or a
 /// contradiction among the literals. It fails for want of memory alone.
 pub fn satisfy(alloc: Global, literals: &[Literal]) -> Result<Solved, NoMemory>
-    requires few { length literals.now < 2 ^ 20 }
+    requires few { length literals.now < too_many }
     requires bounds { bound_of_all literals.now ≤ 2 ^ 100 }
     requires sorts { AreSortsApart literals.now }
     ensures answer { IfOk result (λ solved. IsAnswer literals.now solved) }

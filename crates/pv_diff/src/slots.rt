@@ -4,6 +4,7 @@ ghost use Rattle.std.specs.Prelude.{◌≡◌, ℕ, ℤ, ◌++◌, ◌^◌, ◌<
 ghost use Rattle.std.specs.List.Sorted.{IsStrictlyIncreasing};
 ghost use Rattle.pv_linear.specs.declared.Literal.TheVariants.{AtMost};
 ghost use Rattle.pv_linear.specs.Values.{IsWithin};
+ghost use Rattle.pv_diff.specs.Limits.{too_many};
 ghost use Rattle.pv_diff.specs.Parts.{AllAtMost, IsAtMost};
 ghost use Rattle.pv_diff.specs.Slots.{AreNamed, AreOnlyNamed, AreEdges, AreReferencesNamed, AreOnlyReferences, references_in};
 ghost use Rattle.pv_diff.specs.Table.{number_in};
@@ -38,7 +39,7 @@ fn difference_of(literal: &Literal) -> Difference
 
 /// The symbols of the differences, and 0, as they stand.
 fn gather(alloc: Global, literals: &[Literal]) -> Result<Vec<u32>, NoMemory>
-    requires few { length literals.now < 2 ^ 20 }
+    requires few { length literals.now < too_many }
     requires differences { AllAtMost literals.now }
     ensures zero { IfOk result (λ symbols. Contains symbols.items 0) }
     ensures named { IfOk result (λ symbols. AreNamed symbols.items literals.now) }
@@ -98,7 +99,7 @@ fn sorted(symbols: Vec<u32>) -> Vec<u32>
 
 /// The symbols of the differences, and 0, each once and in rising order.
 pub fn symbols_of(alloc: Global, literals: &[Literal]) -> Result<Vec<u32>, NoMemory>
-    requires few { length literals.now < 2 ^ 20 }
+    requires few { length literals.now < too_many }
     requires differences { AllAtMost literals.now }
     ensures rises { IfOk result (λ symbols. IsStrictlyIncreasing symbols.items) }
     ensures zero { IfOk result (λ symbols. Contains symbols.items 0) }

@@ -1,6 +1,7 @@
 //! Numbers for slots, lowered edge by edge until each edge is met, or until what lowered them goes round.
 
 ghost use Rattle.std.specs.Prelude.{◌≡◌, ℕ, ◌^◌, ◌<◌, ◌≤◌, pos, ◌+ℤ◌, ◌≤ℤ◌, length, slice_index_or, None, IfSome, IfOk, replicate};
+ghost use Rattle.pv_diff.specs.Limits.{too_many};
 ghost use Rattle.pv_diff.specs.Edges.{AllBelow, widest, breadth, edge, IsNegativeRound};
 ghost use Rattle.pv_diff.specs.Table.{IsSound, AreAbove, IsAbove, IsMet, AreMet, Lowers, IsOnLoop, IsSettled, unlowered};
 
@@ -34,7 +35,7 @@ pub struct Entry {
 /// Lowers the slot that the edge at a place leads to, where that edge is not met, and says which it is.
 fn lower(table: &mut [Entry], edges: &[Edge], place: usize) -> Option<u32>
     requires place { place < length edges.now }
-    requires few { length edges.now < 2 ^ 20 }
+    requires few { length edges.now < too_many }
     requires slots { AllBelow (length table.old) edges.now }
     requires bounds { widest edges.now ≤ 2 ^ 100 }
     requires sound { IsSound edges.now table.old }
@@ -62,7 +63,7 @@ fn lower(table: &mut [Entry], edges: &[Edge], place: usize) -> Option<u32>
 /// Goes over all edges once, from the first one on or, backward, from the last one on, and says which slot was lowered last.
 /// It stops at a slot that comes to lie further below zero than all bounds together.
 fn lower_all(table: &mut [Entry], edges: &[Edge], limit: i128, backward: bool) -> Option<u32>
-    requires few { length edges.now < 2 ^ 20 }
+    requires few { length edges.now < too_many }
     requires slots { AllBelow (length table.old) edges.now }
     requires bounds { widest edges.now ≤ 2 ^ 100 }
     requires limit { limit ≡ pos (breadth edges.now) }
@@ -91,7 +92,7 @@ fn lower_all(table: &mut [Entry], edges: &[Edge], limit: i128, backward: bool) -
 
 /// Follows the causes from a slot: None where they end at a slot that was never lowered, else a slot that they lead back to.
 fn follow(table: &[Entry], edges: &[Edge], start: u32) -> Option<u32>
-    requires few { length edges.now < 2 ^ 20 }
+    requires few { length edges.now < too_many }
     requires slots { AllBelow (length table.now) edges.now }
     requires start { start < length table.now }
     requires sound { IsSound edges.now table.now }
@@ -116,7 +117,7 @@ fn loop_places(
     edges: &[Edge],
     start: u32,
 ) -> Result<Places, NoMemory>
-    requires few { length edges.now < 2 ^ 20 }
+    requires few { length edges.now < too_many }
     requires slots { AllBelow (length table.now) edges.now }
     requires start { start < length table.now }
     requires sound { IsSound edges.now table.now }
@@ -142,7 +143,7 @@ fn loop_places(
 
 /// How far from zero the bounds are, all together.
 fn breadth_of(edges: &[Edge]) -> i128
-    requires few { length edges.now < 2 ^ 20 }
+    requires few { length edges.now < too_many }
     requires bounds { widest edges.now ≤ 2 ^ 100 }
     ensures { result ≡ pos (breadth edges.now) }
 {
@@ -174,7 +175,7 @@ fn start_table(alloc: Global, count: usize) -> Result<Vec<Entry>, NoMemory>
 /// Settles the edges: numbers that meet them all, or edges that go round and add up to less than zero. It fails for want of
 /// memory alone.
 pub fn settle(alloc: Global, edges: &[Edge], count: usize) -> Result<Settled, NoMemory>
-    requires few { length edges.now < 2 ^ 20 }
+    requires few { length edges.now < too_many }
     requires slots { AllBelow count edges.now }
     requires bounds { widest edges.now ≤ 2 ^ 100 }
     ensures { IfOk result (λ settled. IsSettled edges.now count settled) }

@@ -1,5 +1,6 @@
 //! Lists of literals: looked through, and asked of the solver.
 
+ghost use Rattle.pv_diff.specs.Limits.{too_many};
 ghost use Rattle.std.specs.Prelude.{◌≡◌, ◌∷◌, [], ◌++◌, ◌≤◌, ◌<◌, ◌^◌, IfOk, IfSome, IsTrue, ◌↔◌, false, true, length};
 ghost use Rattle.pv_linear.specs.Values.{Values};
 ghost use Rattle.pv_linear.specs.Literal.{Holds, Meets, IsBounded, opposite, bound_of_all};
@@ -141,7 +142,7 @@ fn with_one(alloc: Global, literals: &[Literal], last: Literal) -> Result<Vec<Li
 
 /// Whether some numbers meet the literals. It fails for want of memory alone.
 fn can_be_met(alloc: Global, literals: &[Literal]) -> Result<bool, NoMemory>
-    requires few { length literals.now < 2 ^ 20 }
+    requires few { length literals.now < too_many }
     requires bounds { bound_of_all literals.now ≤ 2 ^ 100 }
     requires sorts { AreSortsApart literals.now }
     ensures no { IfOk result (λ told. told ≡ false → (v : Values) → Meets v literals.now → ⊥) }

@@ -1,5 +1,6 @@
 //! The path and its open sides.
 
+ghost use Rattle.pv_diff.specs.Limits.{too_many};
 ghost use Rattle.std.specs.Prelude.{◌≡◌, ◌∷◌, [], ◌++◌, ◌≤◌, ◌<◌, ◌^◌, IfOk, IfNone, IfSome, OnOk, IsTrue, ◌↔◌, false, length, ◌⊎◌};
 ghost use Rattle.pv_linear.specs.Values.{Values, values_of};
 ghost use Rattle.pv_linear.specs.Sorting.{AreSortsApart};
@@ -94,7 +95,7 @@ fn literals_in(alloc: Global, decisions: &[Decision]) -> Result<Vec<Literal>, No
 /// Whether some values meet the literals.
 fn can_be_met(alloc: Global, literals: &[Literal]) -> Result<bool, NoMemory>
     requires sorts { AreSortsApart literals.now }
-    requires few { length literals.now < 2 ^ 20 }
+    requires few { length literals.now < too_many }
     requires bounds { bound_of_all literals.now ≤ 2 ^ 100 }
     ensures { IfOk result (λ told. told ≡ false → (v : Values) → Meets v literals.now → ⊥) }
 {
@@ -107,7 +108,7 @@ fn can_be_met(alloc: Global, literals: &[Literal]) -> Result<bool, NoMemory>
 /// Values that meet the literals, if there are any.
 fn values_for(alloc: Global, literals: &[Literal]) -> Result<Option<Assignment>, NoMemory>
     requires sorts { AreSortsApart literals.now }
-    requires few { length literals.now < 2 ^ 20 }
+    requires few { length literals.now < too_many }
     requires bounds { bound_of_all literals.now ≤ 2 ^ 100 }
     ensures some { IfOk result (λ found. IfSome found (λ numbers. Meets (values_of numbers) literals.now)) }
     ensures none { IfOk result (λ found. IfNone found ((v : Values) → Meets v literals.now → ⊥)) }

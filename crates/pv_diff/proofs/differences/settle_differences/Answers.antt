@@ -1,6 +1,7 @@
 use Rattle.std.proofs.Common.{arith, ap, inl, inr, sym, subst, ◌≡◌, ◌<◌, ◌≤◌, ◌^◌, ◌+ℤ◌, ◌-ℤ◌, ◌≤ℤ◌, ℕ, pos, List, Some, length, slice_index_or}
 use Rattle.std.specs.Prelude.{slice_get, Contains}
 use Rattle.std.proofs.lemmas.Int.{ints}
+use Rattle.pv_diff.specs.Limits.{too_many}
 use Rattle.pv_diff.specs.declared.table.Edge.{Edge}
 use Rattle.pv_diff.specs.declared.table.Entry.{Entry}
 use Rattle.pv_diff.specs.Edges.{AllBelow, widest, breadth}
@@ -15,7 +16,7 @@ use Rattle.pv_diff.proofs.differences.settle_differences.Goals as goal
 pub settle-requires-clause-few : goal.settle-requires-clause-few
 settle-requires-clause-few c =
     let same = AreEdges-length c.deref.result.now c.args.differences.now c.in_ok-edges.edges.items c.in_ok-edges.ensures in
-    subst (λ (es : List Edge). length es < 2 ^ 20) (sym c.deref-2.ensures.value)
+    subst (λ (es : List Edge). length es < too_many) (sym c.deref-2.ensures.value)
     (let few = c.requires.few in omega (arith, same, few))
 
 pub settle-requires-clause-slots : goal.settle-requires-clause-slots
