@@ -270,7 +270,8 @@ pub sorted_apart : (takes : Evidence → List Sort) (path : List Literal) (turns
 unfolding AreSorted
 sorted_apart takes path turns ds made s met = apart_decided takes path turns ds made s met
 
-pub sorted_numbered : (takes : Evidence → List Sort) (path : List Literal) (turns : List ℕ) (ds : List Decision) (made : List Sort)
+pub sorted_numbered : (takes : Evidence → List Sort) (path : List Literal) (turns : List ℕ) (ds : List Decision)
+    (made : List Sort)
     → AreSorted takes path turns ds made → AreNumbered 0 ds
 unfolding AreSorted
 sorted_numbered takes path turns ds made s = s.numbered
