@@ -21,7 +21,8 @@ use crate::expressions::part;
 use crate::noting::{note_if, note_unless};
 use crate::ranges::{declare, note_shadows};
 use crate::rights::{call, expression, first_value, fold, is_made, is_made_first, right};
-use crate::standing::{between_members, in_invariant, in_statement, is_loop};
+use crate::site::Site;
+use crate::standing::{between_members, in_invariant, is_loop};
 use crate::types::{need_like, need_of_result};
 use crate::walk::Walk;
 use pv_ast::{
@@ -180,14 +181,8 @@ pub(crate) fn thread(e: &Expr, environment: &Environment, walk: &mut Walk) -> Re
     ensures messages { OnOk result (messages_in walk.new ≡ messages_in walk.old) }
 {
     let object = Need::AnObject;
-    let seen = part(
-        e,
-        environment,
-        in_statement(),
-        object,
-        &mut walk.visible,
-        &mut walk.first,
-    )?;
+    let site = Site::in_statement(environment);
+    let seen = part(e, site, object, &mut walk.visible, &mut walk.first)?;
     note_if(
         environment.lacks_run(seen),
         &mut walk.first,
@@ -204,14 +199,8 @@ pub(crate) fn lock(e: &Expr, environment: &Environment, walk: &mut Walk) -> Resu
     ensures messages { OnOk result (messages_in walk.new ≡ messages_in walk.old) }
 {
     let object = Need::AnObject;
-    let seen = part(
-        e,
-        environment,
-        in_statement(),
-        object,
-        &mut walk.visible,
-        &mut walk.first,
-    )?;
+    let site = Site::in_statement(environment);
+    let seen = part(e, site, object, &mut walk.visible, &mut walk.first)?;
     note_if(
         environment.lacks_lock_invariant(seen),
         &mut walk.first,
@@ -278,14 +267,8 @@ pub(crate) fn assign(
     ensures messages { OnOk result (messages_in walk.new ≡ messages_in walk.old) }
 {
     let any = Need::Anything;
-    let seen = part(
-        place,
-        environment,
-        in_statement(),
-        any,
-        &mut walk.visible,
-        &mut walk.first,
-    )?;
+    let site = Site::in_statement(environment);
+    let seen = part(place, site, any, &mut walk.visible, &mut walk.first)?;
     let assignable = seen.location || is_inner_local(&place.kind, &walk.visible);
     note_unless(assignable, &mut walk.first, Rule::NotAssignable, place.span);
     let need = need_like(seen.typing);
