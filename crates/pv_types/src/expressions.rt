@@ -127,15 +127,9 @@ fn part_in(
         ExprKind::Token(token, e) => role(*token, e.get(), span, site, visible, first),
         ExprKind::Instance(target, word, args) => {
             note_if(site.context.pure, first, Rule::NotPure, span);
-            let object = instance_target(target, site.purely(), visible, first)?;
-            instance(
-                object,
-                *word,
-                args.as_slice(),
-                site.purely(),
-                visible,
-                first,
-            )
+            let inner = site.purely();
+            let object = instance_target(target, inner, visible, first)?;
+            instance(object, *word, args.as_slice(), inner, visible, first)
         }
         ExprKind::Each(e) => quantified(e, span, site, visible, first),
     }
