@@ -6,15 +6,16 @@ of each static rule and shape there is a text that breaks it, and mostly one bes
 """
 import os
 import re
-import subprocess
 import sys
 import tempfile
 
+import runs
+
+ROWS = os.path.join(os.path.dirname(os.path.abspath(__file__)), "rules.tsv")
+
 
 def main(program):
-    folder = os.path.dirname(os.path.abspath(__file__))
-    program = os.path.abspath(program)
-    rows = open(os.path.join(folder, "rules.tsv"), "rb").read().splitlines()
+    rows = open(ROWS, "rb").read().splitlines()
     wrong = 0
     with tempfile.TemporaryDirectory() as place:
         for row in rows:
@@ -22,13 +23,11 @@ def main(program):
             text = re.sub(rb"\\(.)", lambda m: b"\n" if m[1] == b"n" else m[1], written)
             with open(os.path.join(place, "text.pvl"), "wb") as file:
                 file.write(text)
-            run = subprocess.run([program, "verify", "text.pvl"], cwd=place, capture_output=True, timeout=60)
-            first = run.stdout.split(b"\n")[0]
+            first = runs.run(program, "verify", "text.pvl", folder=place).stdout.split(b"\n")[0]
             if first != line:
                 wrong += 1
                 print(f"{written.decode()}: `{first.decode()}`, not `{line.decode()}`")
-    print(f"{len(rows) - wrong} texts of the rules answered right, {wrong} wrong")
-    return 1 if wrong else 0
+    return runs.count("texts of the rules", len(rows), wrong)
 
 
 if __name__ == "__main__":

@@ -3,24 +3,22 @@
 
 Such words are none of the forms: the answer is the line on the usage, and status 4.
 """
-import os
-import subprocess
 import sys
+
+import runs
 
 USAGE = b"usage: vercors verify FILE | run FILE SCHEDULE | explain FILE UNIT | big N\n"
 ROWS = [[b"\xff"], [b"verify", b"\xff"], [b"\xff", b"a.pvl"], [b"verify", b"a.pvl", b"\xc3"], [b"verify", b"\xed\xa0\x80"]]
 
 
 def main(program):
-    program = os.path.abspath(program)
     wrong = 0
     for words in ROWS:
-        run = subprocess.run([program.encode(), *words], capture_output=True, timeout=60)
+        run = runs.run(program, *words)
         if (run.returncode, run.stdout) != (4, USAGE):
             wrong += 1
             print(f"{words}: status {run.returncode}, `{run.stdout.decode()}`")
-    print(f"{len(ROWS) - wrong} lines of words that aren't UTF-8 answered right, {wrong} wrong")
-    return 1 if wrong else 0
+    return runs.count("lines of words that aren't UTF-8", len(ROWS), wrong)
 
 
 if __name__ == "__main__":

@@ -1,5 +1,5 @@
 -- The readers of clauses are exact.
-use Rattle.std.proofs.Common.{ℕ, ◌≡◌, ◌≤◌, List, [], ◌∷◌, Option, refl}
+use Rattle.std.proofs.Common.{ℕ, ◌≤◌, List, [], Option, refl}
 use Rattle.pv_tokens.specs.declared.fixed.TheConstants.{SEMICOLON}
 use Rattle.pv_ast.specs.declared.Clause.{Clause}
 use Rattle.pv_ast.specs.declared.ClauseKind.{ClauseKind}

@@ -1,20 +1,18 @@
 -- Each reader of expressions and formulas is exact for its rule.
-use Rattle.std.proofs.Common.{ℕ, zero, suc, ◌≡◌, ◌+◌, ◌<◌, ◌≤◌, ◌⊎◌, inl, inr, List, [], ◌∷◌, Option, Some, None, Bool, true, false, if◌then◌else◌, refl, sym, ap, ◌∙◌, subst, arith}
+use Rattle.std.proofs.Common.{ℕ, zero, suc, ◌≡◌, ◌+◌, ◌≤◌, inl, inr, [], ◌∷◌, Option, Some, None, Bool, true, false, if◌then◌else◌, refl, sym, ap, ◌∙◌, subst, arith}
 use Rattle.pv_base.specs.declared.Span.{Span}
 use Rattle.pv_tokens.specs.declared.LexemeKind.TheVariants as k
-use Rattle.pv_tokens.specs.declared.fixed.TheConstants.{NULL, THIS, TRUE, FALSE, PERM, WRITE, INT, RESULT, OLD, IMPLIES, DOTS, OPEN_PAREN, CLOSE_PAREN, OPEN_BRACKET, CLOSE_BRACKET, SEMICOLON, COMMA, DOT, ASSIGN, LESS, AT_MOST, AND_AND, BACKSLASH, BANG, MINUS}
+use Rattle.pv_tokens.specs.declared.fixed.TheConstants.{NULL, THIS, TRUE, FALSE, PERM, RESULT, OLD, IMPLIES, OPEN_PAREN, CLOSE_PAREN, OPEN_BRACKET, CLOSE_BRACKET, COMMA, DOT, BANG, MINUS}
 use Rattle.pv_ast.specs.declared.Word.{Word}
 use Rattle.pv_ast.specs.declared.Operator.{Operator}
 use Rattle.pv_ast.specs.declared.Operator.TheVariants as op
-use Rattle.pv_ast.specs.declared.Expr.{Expr}
 use Rattle.pv_ast.specs.declared.ExprKind.TheVariants as e
-use Rattle.pv_reading.specs.Marks.{Tokens, Marked, fixed_at, word_at, across}
+use Rattle.pv_reading.specs.Marks.{Tokens, Marked, fixed_at}
 use Rattle.pv_reading.specs.Spelled.{Rule}
 use Rattle.pv_reading.specs.Reading.{Reading as Read, Good, Bad, Deep, onward, Parser, ◌>>=◌, give, refuse, opened, fixed, expect, is_fixed, name_of, number_of}
 use Rattle.pv_reading.proofs.Nexts.{Nexts, Sub, anything, knows, either, sub_refl, sub_anything, sub_either, sub_fixed, sub_name, sub_number, sub_table}
-use Rattle.pv_reading.proofs.Exact.{Begins, Exact, Is, is, by_is, Then, seq, Or, AtFixed, at_fixed, AtName, at_name, AtNumber, at_number, AtEntry, at_entry, exact_as, exact_wider, exact_give, exact_bind}
-use Rattle.pv_reading.proofs.Sights.{sight, pick_none, pick_else, exact_fixed, exact_named, exact_numbered, exact_entry, exact_expect, exact_expect_name, exact_expect_number, Opening, too_deep, deep_enough, Deeper, none_deeper, one_deeper, opening_opened, makes_is, makes_then, makes_fixed, makes_name}
-use Rattle.pv_reading.proofs.Loops.{Series, series_end, series_more, exact_series}
+use Rattle.pv_reading.proofs.Exact.{Begins, Exact, Is, is, by_is, Then, seq, Or, AtFixed, at_fixed, at_name, AtEntry, at_entry, exact_as, exact_wider, exact_give, exact_bind}
+use Rattle.pv_reading.proofs.Sights.{sight, pick_none, pick_else, exact_fixed, exact_named, exact_numbered, exact_entry, exact_expect, exact_expect_name, Opening, too_deep, deep_enough, Deeper, none_deeper, one_deeper, opening_opened, makes_is, makes_then, makes_fixed, makes_name}
 use Rattle.pv_exprs.specs.declared.level.Mode.{Mode}
 use Rattle.pv_exprs.specs.declared.level.Mode.TheVariants.{Program, Logic}
 use Rattle.pv_exprs.specs.declared.level.Level.{Level}
@@ -22,10 +20,8 @@ use Rattle.pv_exprs.specs.declared.level.Level.TheVariants as level
 use Rattle.pv_exprs.specs.declared.part.Part.{Part}
 use Rattle.pv_exprs.specs.declared.part.Chain.{Chain}
 use Rattle.pv_exprs.specs.declared.part.Chain.TheVariants.{Named, Other}
-use Rattle.pv_exprs.specs.declared.part.Amount.{Amount}
-use Rattle.pv_exprs.specs.declared.part.Bounds.{Bounds}
-use Rattle.pv_exprs.specs.Operators.{operators, operator_of, repeats, tighter, token_words, token_of, forall_words, forall_of}
-use Rattle.pv_exprs.specs.Trees.{node, joined, negated, signed, widened, element_of, part_of, instance_of, old_of, perm_of, token_part, each_of}
+use Rattle.pv_exprs.specs.Operators.{operators, operator_of, repeats, tighter, token_words, token_of}
+use Rattle.pv_exprs.specs.Trees.{node, joined, negated, signed, widened, element_of, part_of, instance_of, old_of, token_part}
 use Rattle.pv_exprs.specs.Grammar as g
 use Rattle.pv_exprs.specs.Reading
 use Rattle.pv_exprs.specs.Reading.{Readers}

@@ -1,19 +1,16 @@
 -- The rules of what the readers read, beside those of the grammar, and how the one are made of the other.
-use Rattle.std.proofs.Common.{ℕ, zero, suc, ◌≡◌, ◌+◌, ◌<◌, ◌≤◌, ◌⊎◌, inl, inr, List, [], ◌∷◌, Option, Some, None, Bool, true, false, if◌then◌else◌, refl, sym, ap, ◌∙◌, subst, arith}
+use Rattle.std.proofs.Common.{ℕ, suc, ◌≤◌, inl, inr, List, [], ◌∷◌, Option, Some, None, Bool, true, false, refl, arith}
 use Rattle.pv_base.specs.declared.Span.{Span}
-use Rattle.pv_tokens.specs.declared.LexemeKind.TheVariants as k
-use Rattle.pv_tokens.specs.declared.fixed.TheConstants.{NULL, THIS, TRUE, FALSE, PERM, WRITE, INT, RESULT, OLD, IMPLIES, DOTS, OPEN_PAREN, CLOSE_PAREN, OPEN_BRACKET, CLOSE_BRACKET, SEMICOLON, COMMA, DOT, ASSIGN, LESS, AT_MOST, AND_AND, BACKSLASH, BANG, MINUS}
+use Rattle.pv_tokens.specs.declared.fixed.TheConstants.{NULL, THIS, TRUE, FALSE, PERM, WRITE, INT, RESULT, OLD, DOTS, OPEN_PAREN, CLOSE_PAREN, CLOSE_BRACKET, SEMICOLON, COMMA, ASSIGN, LESS, AT_MOST, AND_AND, BACKSLASH}
 use Rattle.pv_ast.specs.declared.Word.{Word}
-use Rattle.pv_ast.specs.declared.Operator.{Operator}
-use Rattle.pv_ast.specs.declared.Operator.TheVariants as op
 use Rattle.pv_ast.specs.declared.Expr.{Expr}
 use Rattle.pv_ast.specs.declared.ExprKind.TheVariants as e
-use Rattle.pv_reading.specs.Marks.{Tokens, Marked, fixed_at, word_at, across}
+use Rattle.pv_reading.specs.Marks.{Marked, fixed_at, word_at, across}
 use Rattle.pv_reading.specs.Spelled.{Rule}
-use Rattle.pv_reading.specs.Reading.{Reading as Read, Good, Bad, Deep, onward, Parser, ◌>>=◌, give, refuse, opened, fixed, expect, is_fixed, name_of, number_of}
-use Rattle.pv_reading.proofs.Nexts.{Nexts, Sub, anything, knows, either, sub_refl, sub_anything, sub_either, sub_fixed, sub_name, sub_number, sub_table}
-use Rattle.pv_reading.proofs.Exact.{Begins, Exact, Is, is, by_is, Then, seq, Or, AtFixed, at_fixed, AtName, at_name, AtNumber, at_number, AtEntry, at_entry, exact_as, exact_wider, exact_give, exact_bind}
-use Rattle.pv_reading.proofs.Sights.{sight, pick_none, pick_else, exact_fixed, exact_named, exact_numbered, exact_entry, exact_expect, exact_expect_name, exact_expect_number, Opening, too_deep, deep_enough, Deeper, none_deeper, one_deeper, opening_opened, makes_is, makes_then, makes_fixed, makes_name}
+use Rattle.pv_reading.specs.Reading.{Parser, is_fixed, number_of}
+use Rattle.pv_reading.proofs.Nexts.{anything, knows, either, sub_refl, sub_fixed}
+use Rattle.pv_reading.proofs.Exact.{Begins, Exact, Is, is, by_is, Then, seq, Or, AtFixed, at_fixed, AtName, at_name, AtNumber, at_number, AtEntry, at_entry, exact_as, exact_give, exact_bind}
+use Rattle.pv_reading.proofs.Sights.{exact_fixed, exact_entry, exact_expect, exact_expect_name, exact_expect_number, deep_enough, Deeper, makes_is, makes_then, makes_fixed, makes_name}
 use Rattle.pv_reading.proofs.Loops.{Series, series_end, series_more, exact_series}
 use Rattle.pv_exprs.specs.declared.level.Mode.{Mode}
 use Rattle.pv_exprs.specs.declared.level.Mode.TheVariants.{Program, Logic}
@@ -24,13 +21,13 @@ use Rattle.pv_exprs.specs.declared.part.Chain.{Chain}
 use Rattle.pv_exprs.specs.declared.part.Chain.TheVariants.{Named, Other}
 use Rattle.pv_exprs.specs.declared.part.Amount.{Amount}
 use Rattle.pv_exprs.specs.declared.part.Bounds.{Bounds}
-use Rattle.pv_exprs.specs.Operators.{operators, operator_of, repeats, tighter, token_words, token_of, forall_words, forall_of}
-use Rattle.pv_exprs.specs.Trees.{node, joined, negated, signed, widened, element_of, part_of, instance_of, old_of, perm_of, token_part, each_of}
+use Rattle.pv_exprs.specs.Operators.{token_of, forall_words, forall_of}
+use Rattle.pv_exprs.specs.Trees.{node, widened, element_of, part_of, instance_of, old_of, perm_of, token_part, each_of}
 use Rattle.pv_exprs.specs.Grammar as g
 use Rattle.pv_exprs.specs.Reading
 use Rattle.pv_exprs.specs.Reading.{Readers}
-use Rattle.pv_exprs.proofs.Ranks.{above, sub_above, starts, starts_post, sub_post, starts_other, sub_other, rank_of, rank_under, under_rank, operators_above, operators_apart}
-use Rattle.pv_exprs.proofs.Makes.{post_makes, unary_makes, operand_makes, expr_makes, formula_makes, only_makes, steps_makes, amount_makes}
+use Rattle.pv_exprs.proofs.Ranks.{above, sub_above, starts, starts_post, rank_of, rank_under}
+use Rattle.pv_exprs.proofs.Makes.{expr_makes, formula_makes}
 
 -- what is known of the readers at depth d
 pub record Known (L d : ℕ) (r : Readers) : Type 0 where

@@ -1,5 +1,5 @@
 -- The calls that read an expression or a formula, as exact readers of trees.
-use Rattle.std.proofs.Common.{ℕ, ◌≡◌, ◌-◌, ◌+◌, ◌≤◌, [], ap, ◌∙◌, arith}
+use Rattle.std.proofs.Common.{ℕ, ◌≡◌, ◌-◌, ◌≤◌, ap, arith}
 use Rattle.pv_ast.specs.declared.Expr.{Expr}
 use Rattle.pv_reading.specs.Marks.{Tokens, Marked}
 use Rattle.pv_reading.specs.Reading.{Good, Parser, onward, ◌>>=◌, give}

@@ -1,5 +1,5 @@
 -- Reading expressions and formulas, as a function: one reader for each rule.
-use Rattle.std.specs.Prelude.{ℕ, zero, suc, List, [], ◌∷◌, Option, Some, None, Bool, true, false, if◌then◌else◌}
+use Rattle.std.specs.Prelude.{ℕ, zero, suc, List, Option, Some, None, Bool, true, false, if◌then◌else◌}
 use Rattle.pv_base.specs.declared.Span.{Span}
 use Rattle.pv_tokens.specs.declared.fixed.TheConstants.{NULL, THIS, TRUE, FALSE, PERM, WRITE, INT, RESULT, OLD, IMPLIES, DOTS, OPEN_PAREN, CLOSE_PAREN, OPEN_BRACKET, CLOSE_BRACKET, SEMICOLON, COMMA, DOT, ASSIGN, LESS, AT_MOST, AND_AND, BACKSLASH, BANG, MINUS}
 use Rattle.pv_ast.specs.declared.Word.{Word}

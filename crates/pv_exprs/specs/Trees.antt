@@ -1,6 +1,6 @@
 -- The trees of expressions and their spans. The span of a node goes from the first to the last token of its own rule;
 -- parentheses belong to the part around.
-use Rattle.std.specs.Prelude.{ℕ, List, Option, Some, None, Bool}
+use Rattle.std.specs.Prelude.{List, Option, Some, None, Bool}
 use Rattle.pv_base.specs.declared.Span.{Span}
 use Rattle.pv_ast.specs.declared.Word.{Word}
 use Rattle.pv_ast.specs.declared.Operator.{Operator}

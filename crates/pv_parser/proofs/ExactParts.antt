@@ -1,5 +1,5 @@
 -- The readers of types, parameters, right sides and other parts of statements are exact.
-use Rattle.std.proofs.Common.{ℕ, suc, ◌≡◌, ◌≤◌, ◌⊎◌, inl, inr, List, [], ◌∷◌, Option, None, refl, ap, ◌∙◌, arith}
+use Rattle.std.proofs.Common.{ℕ, suc, ◌≡◌, ◌≤◌, inl, inr, List, [], ◌∷◌, Option, None, refl, ap, arith}
 use Rattle.pv_base.specs.declared.Span.{Span}
 use Rattle.pv_tokens.specs.declared.fixed.TheConstants.{INT, NEW, THIS, DOTS, OPEN_PAREN, CLOSE_PAREN, OPEN_BRACKET, CLOSE_BRACKET, SEMICOLON, COMMA, ASSIGN, BANG, MINUS}
 use Rattle.pv_ast.specs.declared.Word.{Word}

@@ -1,5 +1,5 @@
 -- The readers of members, classes and programs are exact.
-use Rattle.std.proofs.Common.{ℕ, zero, suc, ◌≡◌, ◌+◌, ◌≤◌, ◌⊎◌, inl, inr, List, [], ◌∷◌, ◌++◌, Option, Some, None, is_some, Bool, true, false, cond, nat_eq, not, refl, sym, ap, ◌∙◌, subst, arith}
+use Rattle.std.proofs.Common.{ℕ, zero, suc, ◌≡◌, ◌+◌, ◌≤◌, inl, inr, List, [], ◌∷◌, Option, Some, None, is_some, Bool, true, false, cond, nat_eq, not, refl, sym, ap, ◌∙◌, subst, arith}
 use Rattle.std.proofs.lemmas.Bool.{eqb-true}
 use Rattle.pv_base.specs.declared.Name.{Name}
 use Rattle.pv_base.specs.declared.Span.{Span}
@@ -20,7 +20,7 @@ use Rattle.pv_ast.specs.declared.Class.{Class}
 use Rattle.pv_ast.specs.declared.Program.{Program}
 use Rattle.pv_reading.specs.Marks.{Marked, plain, begins_at, across, fixed_at, word_at}
 use Rattle.pv_reading.specs.Spelled.{Rule}
-use Rattle.pv_reading.specs.Reading.{◌>>=◌, is_fixed, name_of, listed_in}
+use Rattle.pv_reading.specs.Reading.{is_fixed, name_of, listed_in}
 use Rattle.pv_reading.proofs.Nexts.{Nexts, anything, knows, either, sub_refl, sub_anything, sub_either, sub_fixed, sub_name, sub_table, sub_left}
 use Rattle.pv_reading.proofs.Exact.{Begins, Exact, Is, is, by_is, Then, seq, Or, AtFixed, at_fixed, AtName, at_name, AtEntry, at_entry, exact_as, exact_wider, exact_give, exact_bind}
 use Rattle.pv_reading.proofs.Sights.{at_kind, exact_fixed, exact_entry, exact_expect, exact_expect_name, deep_enough, none_deeper, one_deeper, opening_opened, makes_is, makes_then, makes_fixed}

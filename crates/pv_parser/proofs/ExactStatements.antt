@@ -1,5 +1,5 @@
 -- The readers of statements are exact.
-use Rattle.std.proofs.Common.{ℕ, suc, ◌≡◌, ◌+◌, ◌≤◌, ◌⊎◌, inl, inr, List, [], ◌∷◌, ◌++◌, Option, Some, None, Bool, refl, sym, ap, ◌∙◌, subst, arith}
+use Rattle.std.proofs.Common.{ℕ, suc, ◌≡◌, ◌+◌, ◌≤◌, inl, inr, List, [], ◌∷◌, Option, Some, None, Bool, refl, sym, ap, ◌∙◌, subst, arith}
 use Rattle.pv_base.specs.declared.Span.{Span}
 use Rattle.pv_tokens.specs.declared.LexemeKind.TheVariants as k
 use Rattle.pv_tokens.specs.declared.fixed.TheConstants.{INT, BOOLEAN, BOOL, FORK, JOIN, LOCK, UNLOCK, COMMIT, FOLD, UNFOLD, LOOP_INVARIANT, IF, ELSE, WHILE, FOR, PAR, BARRIER, ASSERT, SEND, RECV, RETURN, THIS, OPEN_BRACE, CLOSE_BRACE, OPEN_PAREN, CLOSE_PAREN, OPEN_BRACKET, CLOSE_BRACKET, SEMICOLON, COLON, COMMA, ASSIGN, DOT}
@@ -27,7 +27,6 @@ use Rattle.pv_exprs.proofs.Ranks.{above, starts}
 use Rattle.pv_exprs.proofs.Exactness.{steps_to, some_steps_exact, readers_known}
 use Rattle.pv_exprs.proofs.Rules.{Knows, to_args}
 use Rattle.pv_clauses.specs.Grammar.{IsClauses}
-use Rattle.pv_clauses.specs.Grammar as c
 use Rattle.pv_clauses.proofs.Exactness.{clauses_exact, clauses_makes}
 use Rattle.pv_parser.specs.declared.words.Base.{Base}
 use Rattle.pv_parser.specs.declared.words.Action.{Action}

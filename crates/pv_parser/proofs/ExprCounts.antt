@@ -1,5 +1,5 @@
 -- No more numbers are written in an expression, a formula or a contract than it has tokens.
-use Rattle.std.proofs.Common.{ℕ, ◌≡◌, ◌+◌, ◌≤◌, List, [], ◌∷◌, length, fold, sum as total, map, Option, Some, None, Bool, true, false, sym, ap, ◌∙◌, arith}
+use Rattle.std.proofs.Common.{ℕ, ◌≡◌, ◌+◌, ◌≤◌, List, [], ◌∷◌, length, fold, sum as total, map, Option, Some, None, Bool, true, false, ◌∙◌, arith}
 use Rattle.pv_base.specs.declared.Span.{Span}
 use Rattle.pv_ast.specs.Measures.{literals_in_kind, literals_in_each, literals_in_expr, literals_of, literals_of_kind, literals_of_all, literals_of_option, literals_of_clause}
 use Rattle.pv_ast.specs.declared.Word.{Word}

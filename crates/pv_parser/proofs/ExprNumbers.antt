@@ -13,7 +13,6 @@ use Rattle.pv_ast.specs.declared.Operator.TheVariants as op
 use Rattle.pv_ast.specs.declared.Expr.{Expr}
 use Rattle.pv_ast.specs.declared.ExprKind.{ExprKind}
 use Rattle.pv_ast.specs.declared.ExprKind.TheVariants as e
-use Rattle.pv_ast.specs.declared.Each.{Each, Each-F, roll-Each}
 use Rattle.pv_ast.specs.declared.Clause.{Clause}
 use Rattle.pv_ast.specs.Rules.Numbers.{flattened, numbers_in_kind, numbers_in_each, numbers_in_expr, numbers_of, numbers_of_kind, numbers_of_all, numbers_of_option, numbers_of_clause}
 use Rattle.pv_reading.specs.Marks.{Marked, plain, across}

@@ -16,7 +16,6 @@ use Rattle.pv_ast.specs.declared.Stmt.{Stmt}
 use Rattle.pv_ast.specs.declared.StmtKind.{StmtKind}
 use Rattle.pv_ast.specs.declared.StmtKind.TheVariants as st
 use Rattle.pv_ast.specs.declared.Param.{Param}
-use Rattle.pv_ast.specs.declared.Clause.{Clause}
 use Rattle.pv_ast.specs.declared.Member.{Member}
 use Rattle.pv_ast.specs.declared.Class.{Class}
 use Rattle.pv_ast.specs.declared.Program.{Program}

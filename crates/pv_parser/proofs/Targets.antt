@@ -1,5 +1,5 @@
 -- Targets: a chain up to its last name, read step by step. A chain that ends in an element has to go on.
-use Rattle.std.proofs.Common.{ℕ, zero, suc, ◌≡◌, ◌+◌, ◌<◌, ◌≤◌, ◌⊎◌, inl, inr, [], ◌∷◌, Option, Some, None, refl, ◌∙◌, arith}
+use Rattle.std.proofs.Common.{ℕ, zero, suc, ◌≡◌, ◌+◌, ◌≤◌, inl, inr, [], ◌∷◌, Option, Some, None, refl, ◌∙◌, arith}
 use Rattle.pv_base.specs.declared.Span.{Span}
 use Rattle.pv_tokens.specs.declared.Lexeme.{Lexeme}
 use Rattle.pv_tokens.specs.declared.LexemeKind.{LexemeKind}

@@ -1,16 +1,14 @@
 -- A reader is exact for a rule where it reads just what the rule says, and stops at the first token at which no more of it
 -- can be said. What is made of exact readers is exact.
-use Rattle.std.proofs.Common.{ℕ, suc, ◌≡◌, ◌+◌, ◌<◌, ◌≤◌, ◌⊎◌, inl, inr, List, [], ◌∷◌, ◌++◌, length, Option, Some, None, is_some, true, false, refl, sym, ap, ◌∙◌, subst, append_assoc, arith}
+use Rattle.std.proofs.Common.{ℕ, suc, ◌≡◌, ◌<◌, ◌⊎◌, inl, inr, [], ◌∷◌, ◌++◌, length, Option, Some, true, refl, sym, ap, ◌∙◌, subst, append_assoc}
 use Rattle.pv_base.specs.declared.Span.{Span}
-use Rattle.pv_base.specs.declared.Name.{Name}
 use Rattle.pv_ast.specs.declared.Word.{Word}
 use Rattle.pv_tokens.specs.declared.Lexeme.{Lexeme}
 use Rattle.pv_tokens.specs.declared.LexemeKind.{LexemeKind}
-use Rattle.pv_tokens.specs.declared.LexemeKind.TheVariants as k
 use Rattle.pv_reading.specs.Marks.{Tokens, Marked, plain, Within, next_of, fixed_at, word_at, number_at}
 use Rattle.pv_reading.specs.Spelled.{Rule}
-use Rattle.pv_reading.specs.Reading.{Reading, Good, Bad, Deep, Parser, onward, ◌>>=◌, give, refuse, chosen, pick, opened, is_fixed, name_of, number_of, entry_of, listed_in, fixed, named, numbered, expect, expect_name, expect_number}
-use Rattle.pv_reading.proofs.Nexts.{Nexts, Sub, Apart, knows, either, sight_of, no_sight, or_left, or_right, Each, fixed_is, name_is, number_is, known_fixed, apart_fixed, apart_name, apart_number, apart_table}
+use Rattle.pv_reading.specs.Reading.{Reading, Good, Bad, Deep, Parser, onward, ◌>>=◌, give}
+use Rattle.pv_reading.proofs.Nexts.{Nexts, Sub}
 
 -- u begins what R says
 abbrev pub Begins : {A : Type 0} → Rule A → Marked → Type 0

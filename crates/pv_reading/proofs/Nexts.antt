@@ -1,5 +1,5 @@
 -- Which tokens may come next.
-use Rattle.std.proofs.Common.{ℕ, ◌≡◌, ◌≤◌, ◌⊎◌, List, [], ◌∷◌, Option, Some, None, is_some, Bool, true, false, cond, ◌||◌, nat_eq, refl, sym, ap, ◌∙◌, subst}
+use Rattle.std.proofs.Common.{ℕ, ◌≡◌, List, [], ◌∷◌, Option, Some, None, is_some, Bool, true, false, cond, ◌||◌, nat_eq, refl, sym, ap, ◌∙◌, subst}
 use Rattle.std.proofs.lemmas.Bool.{eqb-true, eq-eqb}
 use Rattle.pv_base.specs.declared.Name.{Name}
 use Rattle.pv_tokens.specs.declared.LexemeKind.{LexemeKind}

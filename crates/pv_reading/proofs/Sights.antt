@@ -1,16 +1,16 @@
 -- Readers that choose by one token of sight: exact where the reader behind each token that is known is exact, and the one where
 -- none is known.
-use Rattle.std.proofs.Common.{ℕ, suc, ◌≡◌, ◌+◌, ◌<◌, ◌≤◌, ◌⊎◌, inl, inr, List, [], ◌∷◌, ◌++◌, length, Option, Some, None, is_some, true, false, refl, sym, ap, ◌∙◌, subst, append_assoc, arith}
+use Rattle.std.proofs.Common.{ℕ, suc, ◌≡◌, ◌<◌, ◌≤◌, ◌⊎◌, inl, inr, List, [], ◌∷◌, ◌++◌, length, Option, Some, None, is_some, true, false, refl, sym, ap, ◌∙◌, subst, append_assoc}
 use Rattle.pv_base.specs.declared.Span.{Span}
 use Rattle.pv_base.specs.declared.Name.{Name}
 use Rattle.pv_ast.specs.declared.Word.{Word}
 use Rattle.pv_tokens.specs.declared.Lexeme.{Lexeme}
 use Rattle.pv_tokens.specs.declared.LexemeKind.{LexemeKind}
 use Rattle.pv_tokens.specs.declared.LexemeKind.TheVariants as k
-use Rattle.pv_reading.specs.Marks.{Tokens, Marked, plain, Within, next_of, fixed_at, word_at, number_at}
+use Rattle.pv_reading.specs.Marks.{Tokens, Marked, plain, next_of, fixed_at, word_at, number_at}
 use Rattle.pv_reading.specs.Spelled.{Rule}
-use Rattle.pv_reading.specs.Reading.{Reading, Good, Bad, Deep, Parser, onward, ◌>>=◌, give, refuse, chosen, pick, opened, is_fixed, name_of, number_of, entry_of, listed_in, fixed, named, numbered, expect, expect_name, expect_number}
-use Rattle.pv_reading.proofs.Nexts.{Nexts, Sub, Apart, knows, either, sight_of, no_sight, or_left, or_right, Each, fixed_is, name_is, number_is, known_fixed, apart_fixed, apart_name, apart_number, apart_table}
+use Rattle.pv_reading.specs.Reading.{Reading, Good, Bad, Deep, Parser, refuse, chosen, pick, opened, is_fixed, name_of, number_of, entry_of, listed_in, fixed, named, numbered, expect, expect_name, expect_number}
+use Rattle.pv_reading.proofs.Nexts.{Nexts, Apart, knows, either, sight_of, no_sight, or_left, or_right, Each, fixed_is, name_is, number_is, known_fixed, apart_fixed, apart_name, apart_number, apart_table}
 use Rattle.pv_reading.proofs.Exact.{Begins, Ends, Taken, Refused, TooDeep, Reads, ExactAt, Exact, Is, is, Then, seq, Or, AtFixed, at_fixed, AtName, at_name, AtNumber, at_number, AtEntry, at_entry, regroup}
 
 abbrev pub sight : {B : Type 0} → (LexemeKind → Option B) → Tokens → Option B

@@ -1,5 +1,5 @@
 -- A pass over the arguments of a method or predicate goes one argument on.
-use Rattle.std.proofs.Common.{◌≡◌, ℕ, ◌+◌, ◌<◌, Bool, true, ◌&&◌, ◌||◌, Option, List, [], ◌∷◌, map, length, get_or, drop, refl, sym, ◌∙◌, ap}
+use Rattle.std.proofs.Common.{◌≡◌, ℕ, ◌+◌, ◌<◌, Bool, ◌&&◌, ◌||◌, Option, List, [], ◌∷◌, map, length, get_or, drop, refl, sym, ◌∙◌, ap}
 use Rattle.std.proofs.lemmas.List.{at_drop_more}
 use Rattle.std.proofs.Math.Bool.{and_assoc, or_assoc}
 use Rattle.pv_ast.specs.declared.PvType.{PvType}
@@ -9,7 +9,7 @@ use Rattle.pv_ast.specs.declared.fault.Fault.{Fault}
 use Rattle.pv_ast.specs.declared.standing.Context.{Context}
 use Rattle.pv_ast.specs.Rules.Faults.{both, least}
 use Rattle.pv_ast.specs.Rules.Scoping.{Visible}
-use Rattle.pv_ast.specs.Rules.Expressions.{Environment, CheckedExpression, checked_expression, typing_in, names_local, args_meet, args_name_local, faults_of_args, types_of}
+use Rattle.pv_ast.specs.Rules.Expressions.{Environment, checked_expression, typing_in, names_local, args_meet, args_name_local, faults_of_args, types_of}
 use Rattle.pv_ast.specs.Rules.Statements.{need_of_result}
 use Rattle.pv_types.specs.Environments.{IsNextType, has_type}
 

@@ -5,3 +5,4 @@ pub mod Sets
 pub mod TypeFaults
 pub mod Growth
 pub mod Index
+pub mod Sites

@@ -6,6 +6,7 @@ ghost use Rattle.pv_types.specs.Environments.{environment_of};
 use crate::Visible;
 use crate::environment::Environment;
 use crate::expressions::part;
+use crate::site::Site;
 use pv_ast::{Clause, ClauseKind, Context, Expr, Fault, Need, PvType};
 use pv_base::NoMemory;
 
@@ -21,7 +22,11 @@ pub(crate) fn formula(
     ensures same { OnOk result (visible.new ≡ visible.old) }
 {
     let a_truth = Need::Exactly(PvType::Truth);
-    part(e, environment, context, a_truth, visible, first)?;
+    let site = Site {
+        environment,
+        context,
+    };
+    part(e, site, a_truth, visible, first)?;
     Ok(())
 }
 

@@ -16,6 +16,7 @@ mod rights;
 mod scoped;
 mod sets;
 mod simple;
+mod site;
 mod standing;
 mod statements;
 mod types;

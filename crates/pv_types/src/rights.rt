@@ -9,10 +9,10 @@ ghost use Rattle.pv_ast.specs.Rules.Statements as stated;
 ghost use Rattle.pv_types.specs.Environments.{environment_of, members_in};
 
 use crate::Visible;
-use crate::environment::{Environment, Holder, Signature};
+use crate::environment::{Environment, Holder};
 use crate::expressions::part;
 use crate::noting::note_unless;
-use crate::standing::in_statement;
+use crate::site::Site;
 use crate::types::{meets, note_wrong_type, typed_if, typing_of_new_array};
 use crate::uses::{instance, member_use, object};
 use pv_ast::{Expr, Fault, Method, Need, PvType, Right, RightKind, Rule, TypeWord, Typing, Word};
@@ -44,51 +44,12 @@ fn call_on(
     ensures found { OnOk result (first.new ≡ least first.old (faults_of_use word (map checked_expression args.now) (method_signature (members_in holder.entry) word.name) (environment_of environment.now) visible.old stated.in_statement)) }
     ensures same { OnOk result (visible.new ≡ visible.old) }
 {
-    let context = in_statement();
-    match holder {
-        Holder::Nowhere => {
-            member_use(
-                word,
-                args,
-                Signature::Unsought,
-                environment,
-                context,
-                visible,
-                first,
-            )?;
-            Ok(Typing::Unsettled)
-        }
-        Holder::Missing => {
-            member_use(
-                word,
-                args,
-                Signature::Unknown,
-                environment,
-                context,
-                visible,
-                first,
-            )?;
-            Ok(Typing::Unsettled)
-        }
-        Holder::Found(class) => match class.method(word.name) {
-            None => {
-                member_use(
-                    word,
-                    args,
-                    Signature::Unknown,
-                    environment,
-                    context,
-                    visible,
-                    first,
-                )?;
-                Ok(Typing::Unsettled)
-            }
-            Some(method) => {
-                let known = Signature::Known(method.params.as_slice());
-                let seen = member_use(word, args, known, environment, context, visible, first)?;
-                Ok(call_typing(method, seen.meet))
-            }
-        },
+    let site = Site::in_statement(environment);
+    let signature = holder.method_signature(word.name);
+    let seen = member_use(word, args, signature, site, visible, first)?;
+    match holder.method(word.name) {
+        None => Ok(Typing::Unsettled),
+        Some(method) => Ok(call_typing(method, seen.meet)),
     }
 }
 
@@ -105,7 +66,7 @@ pub(crate) fn call(
     ensures found { OnOk result (first.new ≡ least first.old (faults_of_call_of (stated.checked_option target.now) word (stated.parts_of args.now) (environment_of environment.now) visible.old stated.in_statement)) }
     ensures same { OnOk result (visible.new ≡ visible.old) }
 {
-    let object = object(target, environment, in_statement(), visible, first)?;
+    let object = object(target, Site::in_statement(environment), visible, first)?;
     call_on(
         environment.holder(object),
         word,
@@ -128,16 +89,9 @@ pub(crate) fn fold(
     ensures found { OnOk result (first.new ≡ least first.old (faults_of_instance_of (stated.checked_option target.now) word (stated.parts_of args.now) (environment_of environment.now) visible.old stated.in_statement)) }
     ensures same { OnOk result (visible.new ≡ visible.old) }
 {
-    let object = object(target, environment, in_statement(), visible, first)?;
-    instance(
-        object,
-        word,
-        args,
-        environment,
-        in_statement(),
-        visible,
-        first,
-    )?;
+    let site = Site::in_statement(environment);
+    let object = object(target, site, visible, first)?;
+    instance(object, word, args, site, visible, first)?;
     Ok(())
 }
 
@@ -152,7 +106,7 @@ pub(crate) fn expression(
     ensures found { OnOk result (first.new ≡ least first.old (stated.faults_of_expression (environment_of environment.now) visible.old need e.now)) }
     ensures same { OnOk result (visible.new ≡ visible.old) }
 {
-    part(e, environment, in_statement(), need, visible, first)?;
+    part(e, Site::in_statement(environment), need, visible, first)?;
     Ok(())
 }
 
@@ -169,7 +123,8 @@ fn new_array(
     ensures same { OnOk result (visible.new ≡ visible.old) }
 {
     let an_int = Need::Exactly(PvType::Int);
-    let seen = part(length, environment, in_statement(), an_int, visible, first)?;
+    let site = Site::in_statement(environment);
+    let seen = part(length, site, an_int, visible, first)?;
     if meets(an_int, seen.typing) {
         Ok(typing_of_new_array(element.kind))
     } else {

@@ -1,9 +1,13 @@
 ghost use Rattle.std.specs.Prelude.{◌≡◌, ◌||◌, ◌&&◌, map, Some, None, Option};
 ghost use Rattle.std.specs.Option.{option_map};
 ghost use Rattle.pv_ast.specs.declared.Each.{out-Each};
+ghost use Rattle.pv_ast.specs.declared.PvType.TheVariants as pv;
+ghost use Rattle.pv_ast.specs.declared.standing.Need.TheVariants as need;
 ghost use Rattle.pv_ast.specs.Rules.Scoping as scoping;
+ghost use Rattle.pv_ast.specs.Rules.Typing as typing;
 ghost use Rattle.pv_ast.specs.Rules.Expressions as parts;
 ghost use Rattle.pv_ast.specs.Rules.Expressions.{checked_expression, checked_kind, checked_each, args_meet, args_name_local, types_of};
+ghost use Rattle.pv_ast.specs.Rules.Statements.{checked_option};
 ghost use Rattle.pv_ast.specs.Rules.Programs.{environment_in, visible_in, type_in_scope};
 
 use crate::expressions::{
@@ -17,6 +21,7 @@ use pv_ast::{
     ScopeVar, Seen, Typing,
 };
 use pv_base::Name;
+use sqlite_items::Boxed;
 
 /// The variables of the quantifiers around, the innermost first.
 #[cycle(bounds)]
@@ -193,6 +198,41 @@ fn predicate_params<'a>(
     }
 }
 
+/// `!` before a part.
+fn negation(part: Seen) -> Seen
+    ensures { result ≡ parts.value_seen (typing.typed_if (typing.meets (need.Exactly pv.Truth) part.typing) pv.Truth) part.local }
+{
+    of_part(part, A_TRUTH, PvType::Truth)
+}
+
+/// `-` before a part.
+fn opposite(part: Seen) -> Seen
+    ensures { result ≡ parts.value_seen (typing.typed_if (typing.meets (need.Exactly pv.Int) part.typing) pv.Int) part.local }
+{
+    of_part(part, AN_INT, PvType::Int)
+}
+
+/// `\old(..)` around a part.
+fn old(part: Seen) -> Seen
+    ensures { result ≡ parts.value_seen (typing.typing_of_old part.typing) part.local }
+{
+    value(typing_of_old(part.typing), part.local)
+}
+
+/// A permission for a part.
+fn permission(part: Seen) -> Seen
+    ensures { result ≡ parts.value_seen (typing.typed_if (typing.is_typed part.typing) pv.Truth) part.local }
+{
+    of_part(part, Need::Anything, PvType::Truth)
+}
+
+/// A token of a thread or a lock on a part.
+fn role(part: Seen) -> Seen
+    ensures { result ≡ parts.value_seen (typing.typed_if (typing.meets need.AnObject part.typing) pv.Truth) part.local }
+{
+    of_part(part, Need::AnObject, PvType::Truth)
+}
+
 /// What the rules ask of an expression. No memory is taken.
 #[cycle(seen)]
 fn seen(e: &Expr, program: &Program, scope: &Scope, bounds: Option<&Bounds>) -> Seen
@@ -213,59 +253,26 @@ fn seen_in(kind: &ExprKind, program: &Program, scope: &Scope, bounds: Option<&Bo
         ExprKind::Result => value(typing_or(Typing::Untyped, scope.result), false),
         ExprKind::Var(word) => named(word.name, program, scope, bounds),
         ExprKind::Field(e, word) => {
-            member(
-                seen(e.get(), program, scope, bounds),
-                word.name,
-                program,
-                scope,
-            )
+            let target = seen(e.get(), program, scope, bounds);
+            member(target, word.name, program, scope)
         }
         ExprKind::Index(e, at) => {
             let array = seen(e.get(), program, scope, bounds);
             element(array, seen(at.get(), program, scope, bounds))
         }
-        ExprKind::Not(e) => of_part(
-            seen(e.get(), program, scope, bounds),
-            A_TRUTH,
-            PvType::Truth,
-        ),
-        ExprKind::Minus(e) => of_part(seen(e.get(), program, scope, bounds), AN_INT, PvType::Int),
+        ExprKind::Not(e) => negation(seen(e.get(), program, scope, bounds)),
+        ExprKind::Minus(e) => opposite(seen(e.get(), program, scope, bounds)),
         ExprKind::Binary(operator, a, b) => {
             let left = seen(a.get(), program, scope, bounds);
             binary(*operator, left, seen(b.get(), program, scope, bounds))
         }
-        ExprKind::Old(e) => {
-            let now = seen(e.get(), program, scope, bounds);
-            value(typing_of_old(now.typing), now.local)
+        ExprKind::Old(e) => old(seen(e.get(), program, scope, bounds)),
+        ExprKind::Perm(e, _, _, _) => permission(seen(e.get(), program, scope, bounds)),
+        ExprKind::Token(_, e) => role(seen(e.get(), program, scope, bounds)),
+        ExprKind::Instance(target, word, args) => {
+            let object = instance_target(target, program, scope, bounds);
+            instance(object, word.name, args.as_slice(), program, scope, bounds)
         }
-        ExprKind::Perm(e, _, _, _) => {
-            of_part(
-                seen(e.get(), program, scope, bounds),
-                Need::Anything,
-                PvType::Truth,
-            )
-        }
-        ExprKind::Token(_, e) => {
-            of_part(
-                seen(e.get(), program, scope, bounds),
-                Need::AnObject,
-                PvType::Truth,
-            )
-        }
-        ExprKind::Instance(target, word, args) => match target {
-            None => instance(
-                this(scope),
-                word.name,
-                args.as_slice(),
-                program,
-                scope,
-                bounds,
-            ),
-            Some(e) => {
-                let object = seen(e.get(), program, scope, bounds);
-                instance(object, word.name, args.as_slice(), program, scope, bounds)
-            }
-        },
         ExprKind::Each(each) => quantified(each, program, scope, bounds),
     }
 }
@@ -289,6 +296,22 @@ fn quantified_body(each: &Each, program: &Program, scope: &Scope, bounds: Option
         outer: bounds,
     };
     seen(each.body.get(), program, scope, Some(&inner))
+}
+
+/// What an instance of a predicate stands on: an object, or `this` where none is named.
+#[cycle(seen)]
+fn instance_target(
+    target: &Option<Boxed<Expr>>,
+    program: &Program,
+    scope: &Scope,
+    bounds: Option<&Bounds>,
+) -> Seen
+    ensures { result ≡ parts.seen_of_target (environment_in program.now scope.now) (visible_under scope.now bounds.entry) (checked_option target.now) }
+{
+    match target {
+        None => this(scope),
+        Some(e) => seen(e.get(), program, scope, bounds),
+    }
 }
 
 /// An instance of a predicate on an object.

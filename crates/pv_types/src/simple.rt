@@ -21,11 +21,12 @@ use crate::expressions::part;
 use crate::noting::{note_if, note_unless};
 use crate::ranges::{declare, note_shadows};
 use crate::rights::{call, expression, first_value, fold, is_made, is_made_first, right};
-use crate::standing::{between_members, in_invariant, in_statement, is_loop};
+use crate::site::Site;
+use crate::standing::{between_members, in_invariant, is_loop};
 use crate::types::{need_like, need_of_result};
 use crate::walk::Walk;
 use pv_ast::{
-    Context, Contract, Declaration, Expr, ExprKind, Fault, Need, PvType, Right, Rule,
+    Args, Context, Contract, Declaration, Expr, ExprKind, Fault, Need, PvType, Right, Rule,
     StatementContext, TypeWord, Word,
 };
 use pv_base::{NoMemory, Span};
@@ -109,18 +110,21 @@ pub(crate) fn assert_of(
 pub(crate) fn call_of(
     target: &Option<Expr>,
     word: Word,
-    args: &[Expr],
+    args: &Args,
+    span: Span,
     environment: &Environment,
+    stand: StatementContext,
     walk: &mut Walk,
 ) -> Result<(), NoMemory>
-    ensures found { OnOk result (walk.new.first ≡ least walk.old.first (parts.faults_of_call (stated.checked_option target.now) word (stated.parts_of args.now) (environment_of environment.now) walk.old.visible stated.in_statement)) }
+    ensures found { OnOk result (walk.new.first ≡ least walk.old.first (both (stated.not_in_loop stand span) (parts.faults_of_call (stated.checked_option target.now) word (stated.parts_of args.now) (environment_of environment.now) walk.old.visible stated.in_statement))) }
     ensures same { OnOk result (walk.new.visible ≡ walk.old.visible) }
     ensures messages { OnOk result (messages_in walk.new ≡ messages_in walk.old) }
 {
+    not_in_loop(stand, span, walk);
     call(
         target,
         word,
-        args,
+        args.as_slice(),
         environment,
         &mut walk.visible,
         &mut walk.first,
@@ -132,7 +136,7 @@ pub(crate) fn call_of(
 pub(crate) fn fold_of(
     target: &Option<Expr>,
     word: Word,
-    args: &[Expr],
+    args: &Args,
     environment: &Environment,
     walk: &mut Walk,
 ) -> Result<(), NoMemory>
@@ -143,7 +147,7 @@ pub(crate) fn fold_of(
     fold(
         target,
         word,
-        args,
+        args.as_slice(),
         environment,
         &mut walk.visible,
         &mut walk.first,
@@ -174,20 +178,21 @@ pub(crate) fn barrier(
 }
 
 /// Notes the faults of the operand of a fork or a join.
-pub(crate) fn thread(e: &Expr, environment: &Environment, walk: &mut Walk) -> Result<(), NoMemory>
-    ensures found { OnOk result (walk.new.first ≡ least walk.old.first (stated.faults_of_operand lookup.has_run (environment_of environment.now) walk.old.visible e.now)) }
+pub(crate) fn thread(
+    e: &Expr,
+    span: Span,
+    environment: &Environment,
+    stand: StatementContext,
+    walk: &mut Walk,
+) -> Result<(), NoMemory>
+    ensures found { OnOk result (walk.new.first ≡ least walk.old.first (both (stated.not_in_loop stand span) (stated.faults_of_operand lookup.has_run (environment_of environment.now) walk.old.visible e.now))) }
     ensures same { OnOk result (walk.new.visible ≡ walk.old.visible) }
     ensures messages { OnOk result (messages_in walk.new ≡ messages_in walk.old) }
 {
+    not_in_loop(stand, span, walk);
     let object = Need::AnObject;
-    let seen = part(
-        e,
-        environment,
-        in_statement(),
-        object,
-        &mut walk.visible,
-        &mut walk.first,
-    )?;
+    let site = Site::in_statement(environment);
+    let seen = part(e, site, object, &mut walk.visible, &mut walk.first)?;
     note_if(
         environment.lacks_run(seen),
         &mut walk.first,
@@ -198,20 +203,21 @@ pub(crate) fn thread(e: &Expr, environment: &Environment, walk: &mut Walk) -> Re
 }
 
 /// Notes the faults of the operand of a statement of locks.
-pub(crate) fn lock(e: &Expr, environment: &Environment, walk: &mut Walk) -> Result<(), NoMemory>
-    ensures found { OnOk result (walk.new.first ≡ least walk.old.first (stated.faults_of_operand lookup.has_lock_invariant (environment_of environment.now) walk.old.visible e.now)) }
+pub(crate) fn lock(
+    e: &Expr,
+    span: Span,
+    environment: &Environment,
+    stand: StatementContext,
+    walk: &mut Walk,
+) -> Result<(), NoMemory>
+    ensures found { OnOk result (walk.new.first ≡ least walk.old.first (both (stated.not_in_loop stand span) (stated.faults_of_operand lookup.has_lock_invariant (environment_of environment.now) walk.old.visible e.now))) }
     ensures same { OnOk result (walk.new.visible ≡ walk.old.visible) }
     ensures messages { OnOk result (messages_in walk.new ≡ messages_in walk.old) }
 {
+    not_in_loop(stand, span, walk);
     let object = Need::AnObject;
-    let seen = part(
-        e,
-        environment,
-        in_statement(),
-        object,
-        &mut walk.visible,
-        &mut walk.first,
-    )?;
+    let site = Site::in_statement(environment);
+    let seen = part(e, site, object, &mut walk.visible, &mut walk.first)?;
     note_if(
         environment.lacks_lock_invariant(seen),
         &mut walk.first,
@@ -278,14 +284,8 @@ pub(crate) fn assign(
     ensures messages { OnOk result (messages_in walk.new ≡ messages_in walk.old) }
 {
     let any = Need::Anything;
-    let seen = part(
-        place,
-        environment,
-        in_statement(),
-        any,
-        &mut walk.visible,
-        &mut walk.first,
-    )?;
+    let site = Site::in_statement(environment);
+    let seen = part(place, site, any, &mut walk.visible, &mut walk.first)?;
     let assignable = seen.location || is_inner_local(&place.kind, &walk.visible);
     note_unless(assignable, &mut walk.first, Rule::NotAssignable, place.span);
     let need = need_like(seen.typing);

@@ -19,7 +19,7 @@ use crate::simple::{
 };
 use crate::standing::{among_members, in_branch, in_condition, in_while};
 use crate::walk::Walk;
-use pv_ast::{Contract, Range, StatementContext, Stmt, StmtKind, Surround, Word};
+use pv_ast::{Block, Contract, Range, StatementContext, Stmt, StmtKind, Surround, Word};
 use pv_base::{NoMemory, Span};
 
 /// Notes the faults of a statement. A local that it declares is in scope then, and its labels are among the messages.
@@ -52,19 +52,12 @@ fn statement_in(
     ensures messages { OnOk result (messages_in walk.new ≡ (checked_statement_kind kind.now).messages (messages_in walk.old)) }
 {
     match kind {
-        StmtKind::Local(word, name, value) => local(
-            *word,
-            *name,
-            value,
-            span,
-            environment,
-            stand,
-            walk,
-        ),
+        StmtKind::Local(word, name, value) => {
+            local(*word, *name, value, span, environment, stand, walk)
+        }
         StmtKind::Assign(place, value) => assign(place, value, span, environment, stand, walk),
         StmtKind::Call(target, word, args) => {
-            not_in_loop(stand, span, walk);
-            call_of(target, *word, args.as_slice(), environment, walk)
+            call_of(target, *word, args, span, environment, stand, walk)
         }
         StmtKind::If(condition, first, second) => {
             condition_of(condition, environment, walk)?;
@@ -77,43 +70,23 @@ fn statement_in(
             block(body.as_slice(), environment, in_while(stand), walk)
         }
         StmtKind::For(range, contract, body) => {
-            not_in_loop(stand, span, walk);
-            counted_loop(range, contract, body.as_slice(), environment, stand, walk)
+            counted_loop(range, contract, body, span, environment, stand, walk)
         }
         StmtKind::Par(name, range, contract, body) => {
-            not_in_loop(stand, span, walk);
-            par_block(
-                name,
-                range,
-                contract,
-                body.as_slice(),
-                environment,
-                stand,
-                walk,
-            )
+            par_block(name, range, contract, body, span, environment, stand, walk)
         }
         StmtKind::Barrier(word, contract) => barrier(*word, contract, environment, walk),
-        StmtKind::Fork(e) | StmtKind::Join(e) => {
-            not_in_loop(stand, span, walk);
-            thread(e, environment, walk)
-        }
+        StmtKind::Fork(e) | StmtKind::Join(e) => thread(e, span, environment, stand, walk),
         StmtKind::Lock(e) | StmtKind::Unlock(e) | StmtKind::Commit(e) => {
-            not_in_loop(stand, span, walk);
-            lock(e, environment, walk)
+            lock(e, span, environment, stand, walk)
         }
         StmtKind::Fold(target, word, args) | StmtKind::Unfold(target, word, args) => {
-            fold_of(target, *word, args.as_slice(), environment, walk)
+            fold_of(target, *word, args, environment, walk)
         }
         StmtKind::Assert(e) => assert_of(e, environment, stand, walk),
-        StmtKind::Send(word, distance, e) => send(
-            *word,
-            *distance,
-            e,
-            span,
-            environment,
-            stand,
-            walk,
-        ),
+        StmtKind::Send(word, distance, e) => {
+            send(*word, *distance, e, span, environment, stand, walk)
+        }
         StmtKind::Recv(word) => receive(*word, span, stand, walk),
         StmtKind::Return(value) => returned(value, span, environment, stand, walk),
     }
@@ -144,7 +117,7 @@ fn block(
 fn members(
     surround: Surround,
     contract: &Contract,
-    body: &[Stmt],
+    body: &Block,
     environment: &Environment,
     stand: StatementContext,
     walk: &mut Walk,
@@ -154,7 +127,12 @@ fn members(
     ensures messages { OnOk result (messages_in walk.new ≡ stated.messages_of_statements (parts_of_block body.now) (messages_in walk.old)) }
 {
     clauses_of(contract, environment, in_condition(), walk)?;
-    block(body, environment, among_members(surround, stand), walk)
+    block(
+        body.as_slice(),
+        environment,
+        among_members(surround, stand),
+        walk,
+    )
 }
 
 /// Notes the faults of a counted loop.
@@ -162,15 +140,17 @@ fn members(
 fn counted_loop(
     range: &Range,
     contract: &Contract,
-    body: &[Stmt],
+    body: &Block,
+    span: Span,
     environment: &Environment,
     stand: StatementContext,
     walk: &mut Walk,
 ) -> Result<(), NoMemory>
-    ensures found { OnOk result (walk.new.first ≡ least walk.old.first (stated.faults_of_for range.now contract.now (parts_of_block body.now) (environment_of environment.now) walk.old.visible stand)) }
+    ensures found { OnOk result (walk.new.first ≡ least walk.old.first (both (stated.not_in_loop stand span) (stated.faults_of_for range.now contract.now (parts_of_block body.now) (environment_of environment.now) walk.old.visible stand))) }
     ensures same { OnOk result (walk.new.visible ≡ walk.old.visible) }
     ensures messages { OnOk result (messages_in walk.new ≡ messages_in walk.old) }
 {
+    not_in_loop(stand, span, walk);
     bounds(range, environment, &mut walk.visible, &mut walk.first)?;
     let mark = walk.visible.mark();
     walk.visible.enter();
@@ -189,15 +169,17 @@ fn par_block(
     name: &Option<Word>,
     range: &Range,
     contract: &Contract,
-    body: &[Stmt],
+    body: &Block,
+    span: Span,
     environment: &Environment,
     stand: StatementContext,
     walk: &mut Walk,
 ) -> Result<(), NoMemory>
-    ensures found { OnOk result (walk.new.first ≡ least walk.old.first (stated.faults_of_par name.now range.now contract.now (parts_of_block body.now) (environment_of environment.now) walk.old.visible stand)) }
+    ensures found { OnOk result (walk.new.first ≡ least walk.old.first (both (stated.not_in_loop stand span) (stated.faults_of_par name.now range.now contract.now (parts_of_block body.now) (environment_of environment.now) walk.old.visible stand))) }
     ensures same { OnOk result (walk.new.visible ≡ walk.old.visible) }
     ensures messages { OnOk result (messages_in walk.new ≡ stated.messages_of_statements (parts_of_block body.now) (messages_in walk.old)) }
 {
+    not_in_loop(stand, span, walk);
     bounds(range, environment, &mut walk.visible, &mut walk.first)?;
     let mark = walk.visible.mark();
     walk.visible.enter();

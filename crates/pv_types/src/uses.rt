@@ -8,14 +8,16 @@ ghost use Rattle.pv_ast.specs.Rules.Scoping as scoping;
 ghost use Rattle.pv_ast.specs.Rules.Statements.{option_type, typing_of_call, checked_option};
 ghost use Rattle.pv_ast.specs.Rules.Expressions as parts;
 ghost use Rattle.pv_ast.specs.Rules.Expressions.{checked_expression, args_meet, args_name_local, types_of, seen_of_target, faults_of_args, param_types, typing_of_use, value_seen, holder_of, predicate_signature};
-ghost use Rattle.pv_types.specs.Environments.{environment_of, signature_of, IsNextType, has_type as has_type_of};
+ghost use Rattle.pv_types.specs.Environments.{signature_of, IsNextType, has_type as has_type_of};
+ghost use Rattle.pv_types.specs.Sites.{around};
 
 use crate::Visible;
-use crate::environment::{Environment, Signature};
+use crate::environment::Signature;
 use crate::expressions::part;
 use crate::noting::note_if;
+use crate::site::Site;
 use crate::types::{meets, need_of_result, typed_if};
-use pv_ast::{Context, Expr, Fault, Method, Need, Param, PvType, Rule, Seen, Typing, Word};
+use pv_ast::{Expr, Fault, Method, Need, Param, PvType, Rule, Seen, Typing, Word};
 use pv_base::NoMemory;
 
 /// What arguments are: whether each has a type, and its parameter's where there is one; and whether a local variable stands in
@@ -51,14 +53,13 @@ pub(crate) fn has_type(needed: Option<PvType>, found: Typing) -> bool
 fn arguments(
     args: &[Expr],
     params: &[Param],
-    environment: &Environment,
-    context: Context,
+    site: Site,
     visible: &mut Visible,
     first: &mut Option<Fault>,
 ) -> Result<ArgsSeen, NoMemory>
-    ensures meet { IfOk result (λ seen. seen.meet ≡ args_meet (map checked_expression args.now) (types_of params.now) (environment_of environment.now) visible.old) }
-    ensures local { IfOk result (λ seen. seen.local ≡ args_name_local (map checked_expression args.now) (environment_of environment.now) visible.old) }
-    ensures found { OnOk result (first.new ≡ least first.old (faults_of_args (map checked_expression args.now) (types_of params.now) (environment_of environment.now) visible.old context)) }
+    ensures meet { IfOk result (λ seen. seen.meet ≡ args_meet (map checked_expression args.now) (types_of params.now) (around site.entry) visible.old) }
+    ensures local { IfOk result (λ seen. seen.local ≡ args_name_local (map checked_expression args.now) (around site.entry) visible.old) }
+    ensures found { OnOk result (first.new ≡ least first.old (faults_of_args (map checked_expression args.now) (types_of params.now) (around site.entry) visible.old site.entry.context)) }
     ensures same { OnOk result (visible.new ≡ visible.old) }
 {
     let mut left = params;
@@ -68,7 +69,7 @@ fn arguments(
         let (needed, rest) = next_type(left);
         left = rest;
         let need = need_of_result(needed);
-        let seen = part(arg, environment, context, need, visible, first)?;
+        let seen = part(arg, site, need, visible, first)?;
         meet &= has_type(needed, seen.typing);
         local |= seen.local;
     }
@@ -81,24 +82,23 @@ pub(crate) fn member_use(
     word: Word,
     args: &[Expr],
     signature: Signature,
-    environment: &Environment,
-    context: Context,
+    site: Site,
     visible: &mut Visible,
     first: &mut Option<Fault>,
 ) -> Result<ArgsSeen, NoMemory>
-    ensures meet { IfOk result (λ seen. seen.meet ≡ args_meet (map checked_expression args.now) (param_types (signature_of signature.entry)) (environment_of environment.now) visible.old) }
-    ensures local { IfOk result (λ seen. seen.local ≡ args_name_local (map checked_expression args.now) (environment_of environment.now) visible.old) }
-    ensures found { OnOk result (first.new ≡ least first.old (parts.faults_of_use word (map checked_expression args.now) (signature_of signature.entry) (environment_of environment.now) visible.old context)) }
+    ensures meet { IfOk result (λ seen. seen.meet ≡ args_meet (map checked_expression args.now) (param_types (signature_of signature.entry)) (around site.entry) visible.old) }
+    ensures local { IfOk result (λ seen. seen.local ≡ args_name_local (map checked_expression args.now) (around site.entry) visible.old) }
+    ensures found { OnOk result (first.new ≡ least first.old (parts.faults_of_use word (map checked_expression args.now) (signature_of signature.entry) (around site.entry) visible.old site.entry.context)) }
     ensures same { OnOk result (visible.new ≡ visible.old) }
 {
     match signature {
-        Signature::Unsought => arguments(args, &[], environment, context, visible, first),
+        Signature::Unsought => arguments(args, &[], site, visible, first),
         Signature::Unknown => {
             note_if(true, first, Rule::UnknownName, word.span);
-            arguments(args, &[], environment, context, visible, first)
+            arguments(args, &[], site, visible, first)
         }
         Signature::Known(params) => {
-            let seen = arguments(args, params, environment, context, visible, first)?;
+            let seen = arguments(args, params, site, visible, first)?;
             note_if(
                 args.len() != params.len(),
                 first,
@@ -116,17 +116,16 @@ pub(crate) fn instance(
     object: Seen,
     word: Word,
     args: &[Expr],
-    environment: &Environment,
-    context: Context,
+    site: Site,
     visible: &mut Visible,
     first: &mut Option<Fault>,
 ) -> Result<Seen, NoMemory>
-    ensures seen { IfOk result (λ seen. seen ≡ value_seen (typing_of_use (map checked_expression args.now) (predicate_signature (holder_of (environment_of environment.now) object) word.name) (environment_of environment.now) visible.old) (object.local || args_name_local (map checked_expression args.now) (environment_of environment.now) visible.old)) }
-    ensures found { OnOk result (first.new ≡ least first.old (parts.faults_of_predicate_use object word (map checked_expression args.now) (environment_of environment.now) visible.old context)) }
+    ensures seen { IfOk result (λ seen. seen ≡ value_seen (typing_of_use (map checked_expression args.now) (predicate_signature (holder_of (around site.entry) object) word.name) (around site.entry) visible.old) (object.local || args_name_local (map checked_expression args.now) (around site.entry) visible.old)) }
+    ensures found { OnOk result (first.new ≡ least first.old (parts.faults_of_predicate_use object word (map checked_expression args.now) (around site.entry) visible.old site.entry.context)) }
     ensures same { OnOk result (visible.new ≡ visible.old) }
 {
-    let signature = environment.holder(object).predicate(word.name);
-    let seen = member_use(word, args, signature, environment, context, visible, first)?;
+    let signature = site.environment.holder(object).predicate(word.name);
+    let seen = member_use(word, args, signature, site, visible, first)?;
     let known = matches!(signature, Signature::Known(_));
     Ok(Seen {
         typing: typed_if(known && seen.meet, PvType::Truth),
@@ -139,17 +138,16 @@ pub(crate) fn instance(
 /// What stands before the name of a method or predicate: an object, or nothing, which means `this`.
 pub(crate) fn object(
     target: &Option<Expr>,
-    environment: &Environment,
-    context: Context,
+    site: Site,
     visible: &mut Visible,
     first: &mut Option<Fault>,
 ) -> Result<Seen, NoMemory>
-    ensures seen { IfOk result (λ seen. seen ≡ seen_of_target (environment_of environment.now) visible.old (checked_option target.now)) }
-    ensures found { OnOk result (first.new ≡ least first.old (parts.faults_of_target (environment_of environment.now) visible.old context (checked_option target.now))) }
+    ensures seen { IfOk result (λ seen. seen ≡ seen_of_target (around site.entry) visible.old (checked_option target.now)) }
+    ensures found { OnOk result (first.new ≡ least first.old (parts.faults_of_target (around site.entry) visible.old site.entry.context (checked_option target.now))) }
     ensures same { OnOk result (visible.new ≡ visible.old) }
 {
     match target {
-        None => Ok(environment.this()),
-        Some(e) => part(e, environment, context, Need::AnObject, visible, first),
+        None => Ok(site.environment.this()),
+        Some(e) => part(e, site, Need::AnObject, visible, first),
     }
 }

@@ -74,8 +74,8 @@ fn faults_in_classes(rt: HostRuntime) -> Result<(), Fail> {
 }
 
 #[test]
-fn faults_in_members(rt: HostRuntime) -> Result<(), Fail> {
-    let rows: [(&[u8], &[u8], u32, u32); 7] = [
+fn faults_in_fields(rt: HostRuntime) -> Result<(), Fail> {
+    let rows: [(&[u8], &[u8], u32, u32); 2] = [
         (
             b"class A { int x; B y; }",
             b"class A { int x = 1; }",
@@ -88,6 +88,13 @@ fn faults_in_members(rt: HostRuntime) -> Result<(), Fail> {
             11,
             12,
         ),
+    ];
+    expect_programs(&rt, rt.alloc(), &rows)
+}
+
+#[test]
+fn faults_in_predicates_and_methods(rt: HostRuntime) -> Result<(), Fail> {
+    let rows: [(&[u8], &[u8], u32, u32); 5] = [
         (b"class A { void f() { } }", b"class A { void f; }", 16, 17),
         (
             b"class A { resource p() = a ** b; }",
@@ -387,8 +394,8 @@ fn depths_of_prefixes(rt: HostRuntime) -> Result<(), Fail> {
 }
 
 #[test]
-fn depths_of_joined_formulas(rt: HostRuntime) -> Result<(), Fail> {
-    let rows: [Deep; 4] = [
+fn depths_of_implications_and_stars(rt: HostRuntime) -> Result<(), Fail> {
+    let rows: [Deep; 2] = [
         Deep {
             front: b"assert a",
             piece: b" ==> a",
@@ -409,6 +416,13 @@ fn depths_of_joined_formulas(rt: HostRuntime) -> Result<(), Fail> {
             from: 340,
             to: 342,
         },
+    ];
+    expect_depths(&rt, rt.alloc(), &rows)
+}
+
+#[test]
+fn depths_of_logical_operators(rt: HostRuntime) -> Result<(), Fail> {
+    let rows: [Deep; 2] = [
         Deep {
             front: b"assert a",
             piece: b" && a",
@@ -434,8 +448,8 @@ fn depths_of_joined_formulas(rt: HostRuntime) -> Result<(), Fail> {
 }
 
 #[test]
-fn depths_of_operators(rt: HostRuntime) -> Result<(), Fail> {
-    let rows: [Deep; 4] = [
+fn depths_of_sums_and_products(rt: HostRuntime) -> Result<(), Fail> {
+    let rows: [Deep; 2] = [
         Deep {
             front: b"return a",
             piece: b" + a",
@@ -456,6 +470,13 @@ fn depths_of_operators(rt: HostRuntime) -> Result<(), Fail> {
             from: 278,
             to: 279,
         },
+    ];
+    expect_depths(&rt, rt.alloc(), &rows)
+}
+
+#[test]
+fn depths_of_comparisons(rt: HostRuntime) -> Result<(), Fail> {
+    let rows: [Deep; 2] = [
         Deep {
             front: b"return !",
             piece: b"(a == ",

@@ -6,7 +6,7 @@ use Rattle.pv_ast.specs.Rules.Programs.{environment_in}
 use Rattle.pv_types.specs.Bounds.{visible_under}
 use Rattle.pv_types.proofs.Arguments.{meet_next, local_next}
 use Rattle.pv_types.proofs.Bounding.{under}
-use Rattle.pv_types.proofs.Instances.{instance_of_this, instance_of_object}
+use Rattle.pv_types.proofs.Instances.{instance_kind}
 use Rattle.pv_types.proofs.scoped.+seen.Goals as goal
 
 pub arguments-loop-arg-preserved : goal.arguments-loop-arg-preserved
@@ -24,15 +24,10 @@ arguments-loop-arg-preserved t c =
       local = rw c.seen-each.ensures (sym o ∙ c.loop-arg.invariant.local);
     }
 
-pub seen_in-returns-in-None : goal.seen_in-returns-in-None
-seen_in-returns-in-None t c =
-    rw (instance_of_this c.args.kind.now c.in-Instance.target c.in-Instance.word c.in-Instance.args c.in-Instance.is c.in-None.is)
+pub seen_in-returns-in-Instance : goal.seen_in-returns-in-Instance
+seen_in-returns-in-Instance t c =
+    rw (instance_kind c.args.kind.now c.in-Instance.target c.in-Instance.word c.in-Instance.args c.in-Instance.is)
     (grind (arith, common_steps))
-
-pub seen_in-returns-in-Some : goal.seen_in-returns-in-Some
-seen_in-returns-in-Some t c =
-    rw (instance_of_object c.args.kind.now c.in-Instance.target c.in-Some.e c.in-Instance.word c.in-Instance.args c.in-Instance.is
-    c.in-Some.is) (grind (arith, common_steps))
 
 pub quantified_body-returns : goal.quantified_body-returns
 quantified_body-returns t c =
