@@ -1,0 +1,17 @@
+-- The worked programs are verified.
+use Rattle.std.proofs.Common.{◌≡◌, refl}
+use Rattle.pv_picks.specs.Judge.Runs.{maps_of}
+use Rattle.worked_programs.specs.Witnesses as trees
+use Rattle.worked_programs.specs.CoreWitnesses as cores
+use Rattle.worked_trees.proofs.Witnesses.{witnesses_become}
+use Rattle.worked_safety.proofs.Safely.{verified_as}
+use Rattle.worked_threads_safety.specs.Verified.{HandedIsVerified}
+use Rattle.worked_threads_safety.proofs.Handed.{invariant_safe, run_safe, both_safe}
+
+pub handed_verified : HandedIsVerified
+handed_verified =
+    verified_as trees.handed cores.handed witnesses_become.0 (
+      (λ evidence check span. invariant_safe (maps_of evidence.picks) evidence.table evidence.picks check span),
+      ((λ evidence check span. run_safe (maps_of evidence.picks) evidence.table evidence.picks check span),
+      ((λ evidence check span. both_safe (maps_of evidence.picks) evidence.table evidence.picks check span), tt)),
+    )

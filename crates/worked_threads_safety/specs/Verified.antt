@@ -1,0 +1,7 @@
+-- Worked programs of threads, blocks and recursive predicates that are verified.
+use Rattle.pv_picks.specs.Verdicts.Theorems.{IsVerified}
+use Rattle.worked_programs.specs.Witnesses.{handed}
+
+-- a lock that one thread hands to another
+abbrev pub HandedIsVerified : Type 0
+HandedIsVerified = IsVerified handed
