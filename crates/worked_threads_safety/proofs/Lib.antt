@@ -1,3 +1,4 @@
 mod Rows
 mod Handed
+mod ListNode
 mod Verified

@@ -1,16 +1,17 @@
 -- Rows of the judge on a state of which only what they look at is known.
-use Rattle.std.proofs.Common.{◌≡◌, ℕ, ℤ, Bool, true, false, None, List, refl}
-use Rattle.std.specs.Prelude.{nat_eq}
+use Rattle.std.proofs.Common.{◌≡◌, ℕ, ℤ, Bool, true, false, Option, Some, None, List, refl}
+use Rattle.std.specs.Prelude.{nat_eq, not, if◌then◌else◌}
 use Rattle.pv_base.specs.declared.Name.{Name}
 use Rattle.pv_ast.specs.declared.PvType.TheVariants as type
+use Rattle.pv_values.specs.declared.value.Value.{Value}
 use Rattle.pv_values.specs.declared.value.Value.TheVariants as value
 use Rattle.pv_fraction.specs.Amounts.{whole}
 use Rattle.pv_picks.specs.declared.evidence.Entry.{Entry}
-use Rattle.pv_picks.specs.Judge.States.{State, Resource, InField, cells_of, empty_state, with_cell, with_met}
-use Rattle.pv_picks.specs.Judge.Settings.{Next}
-use Rattle.pv_picks.specs.Judge.Permissions.{gain_field}
+use Rattle.pv_picks.specs.Judge.States.{State, Folded, Cell, Written, InField, cells_of, empty_state, with_cell, with_met, with_instances}
+use Rattle.pv_picks.specs.Judge.Settings.{Next, or_missing}
+use Rattle.pv_picks.specs.Judge.Permissions.{gain_field, or_short}
 use Rattle.pv_picks.specs.Judge.Runs.{Maps, Judged, judging}
-use Rattle.worked_safety.proofs.Safely.{Safe, failed, picked}
+use Rattle.worked_safety.proofs.Safely.{Safe, blocks, failed, picked, signed}
 
 -- the state in which an object's method is entered, and that in which its body begins
 abbrev pub entered : Name → ℕ → State
@@ -26,3 +27,27 @@ module _ (maps : Maps) (table : List Entry) where
       → ((z : ℤ) → Safe (next (with_cell s (InField class object name) whole (value.Number z))))
       → Safe (gain_field (judging maps table) class object name type.Int whole next s)
   gains class object name next s there none h = failed (nat_eq object 0) _ _ there (rw (none) (picked h))
+
+  -- a reference is picked for a field
+  pub gains_reference : (class : Name) (object : ℕ) (name of : Name) (next : Next Judged) (s : State) → nat_eq object 0 ≡ false
+      → s.held (InField class object name) ≡ None
+      → ((m : ℕ) → Safe (next
+      (with_cell (with_met s (type.Object of) m) (InField class object name) whole (value.Reference m))))
+      → Safe (gain_field (judging maps table) class object name (type.Object of) whole next s)
+  gains_reference class object name of next s there none h =
+      failed (nat_eq object 0) _ _ there (rw (none) (picked (signed _ (λ n. blocks) h)))
+
+  -- what is held is read
+  pub reads : (cell : Option Cell) (v : Value) (missing : Judged) (next : Value → Next Judged) (s : State)
+      → cell ≡ Some (Written v) → Safe (next v s) → Safe (or_missing (judging maps table) cell missing next s)
+  reads cell v missing next s is h = rw (is) h
+
+  -- an instance that is there is given
+  pub takes : (left : Option (List Folded)) (found : List Folded) (short : Judged) (next : Next Judged) (s : State)
+      → left ≡ Some found → Safe (next (with_instances s found)) → Safe (or_short (judging maps table) left short next s)
+  takes left found short next s is h = rw (is) h
+
+-- a test that is turned round
+pub unless : (b : Bool) (x y : Judged) → (b ≡ false → Safe x) → (b ≡ true → Safe y) → Safe (if not b then x else y)
+unless true x y h k = k refl
+unless false x y h k = h refl

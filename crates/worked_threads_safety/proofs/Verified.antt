@@ -5,8 +5,10 @@ use Rattle.worked_programs.specs.Witnesses as trees
 use Rattle.worked_programs.specs.CoreWitnesses as cores
 use Rattle.worked_trees.proofs.Witnesses.{witnesses_become}
 use Rattle.worked_safety.proofs.Safely.{verified_as}
-use Rattle.worked_threads_safety.specs.Verified.{HandedIsVerified}
+use Rattle.worked_threads_safety.specs.Verified.{HandedIsVerified, ListIsVerified}
 use Rattle.worked_threads_safety.proofs.Handed.{invariant_safe, run_safe, both_safe}
+
+use Rattle.worked_threads_safety.proofs.ListNode.{body_safe, up_safe}
 
 pub handed_verified : HandedIsVerified
 handed_verified =
@@ -14,4 +16,11 @@ handed_verified =
       (λ evidence check span. invariant_safe (maps_of evidence.picks) evidence.table evidence.picks check span),
       ((λ evidence check span. run_safe (maps_of evidence.picks) evidence.table evidence.picks check span),
       ((λ evidence check span. both_safe (maps_of evidence.picks) evidence.table evidence.picks check span), tt)),
+    )
+
+pub list_verified : ListIsVerified
+list_verified =
+    verified_as trees.list cores.list witnesses_become.3 (
+      (λ evidence check span. body_safe (maps_of evidence.picks) evidence.table evidence.picks check span),
+      ((λ evidence check span. up_safe (maps_of evidence.picks) evidence.table evidence.picks check span), tt),
     )

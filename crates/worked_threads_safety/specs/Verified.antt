@@ -1,7 +1,11 @@
 -- Worked programs of threads, blocks and recursive predicates that are verified.
 use Rattle.pv_picks.specs.Verdicts.Theorems.{IsVerified}
-use Rattle.worked_programs.specs.Witnesses.{handed}
+use Rattle.worked_programs.specs.Witnesses.{handed, list}
 
 -- a lock that one thread hands to another
 abbrev pub HandedIsVerified : Type 0
 HandedIsVerified = IsVerified handed
+
+-- a list that is gone through by a recursive predicate and a recursive method
+abbrev pub ListIsVerified : Type 0
+ListIsVerified = IsVerified list

@@ -1,9 +1,14 @@
 //! Worked programs.
 #![tactic(auto)]
 
-ghost use Rattle.worked_threads_safety.specs.Verified.{HandedIsVerified};
+ghost use Rattle.worked_threads_safety.specs.Verified.{HandedIsVerified, ListIsVerified};
 
 /// A lock.
 pub fn a_handed_lock_is_verified()
     ensures { HandedIsVerified }
+{}
+
+/// On a list that is gone through by a recursive predicate and a recursive method, no evidence makes the judge fail.
+pub fn a_list_is_verified()
+    ensures { ListIsVerified }
 {}
