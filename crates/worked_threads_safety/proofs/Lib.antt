@@ -1,4 +1,5 @@
 mod Rows
 mod Handed
 mod ListNode
+mod Posted
 mod Verified

@@ -5,10 +5,12 @@ use Rattle.worked_programs.specs.Witnesses as trees
 use Rattle.worked_programs.specs.CoreWitnesses as cores
 use Rattle.worked_trees.proofs.Witnesses.{witnesses_become}
 use Rattle.worked_safety.proofs.Safely.{verified_as}
-use Rattle.worked_threads_safety.specs.Verified.{HandedIsVerified, ListIsVerified}
+use Rattle.worked_threads_safety.specs.Verified.{HandedIsVerified, ListIsVerified, PostedIsVerified}
 use Rattle.worked_threads_safety.proofs.Handed.{invariant_safe, run_safe, both_safe}
 
 use Rattle.worked_threads_safety.proofs.ListNode.{body_safe, up_safe}
+
+use Rattle.worked_threads_safety.proofs.Posted.{post_safe}
 
 pub handed_verified : HandedIsVerified
 handed_verified =
@@ -24,3 +26,8 @@ list_verified =
       (λ evidence check span. body_safe (maps_of evidence.picks) evidence.table evidence.picks check span),
       ((λ evidence check span. up_safe (maps_of evidence.picks) evidence.table evidence.picks check span), tt),
     )
+
+pub posted_verified : PostedIsVerified
+posted_verified =
+    verified_as trees.posted cores.posted witnesses_become.2
+    ((λ evidence check span. post_safe (maps_of evidence.picks) evidence.table evidence.picks check span), tt)

@@ -1,6 +1,6 @@
 -- Worked programs of threads, blocks and recursive predicates that are verified.
 use Rattle.pv_picks.specs.Verdicts.Theorems.{IsVerified}
-use Rattle.worked_programs.specs.Witnesses.{handed, list}
+use Rattle.worked_programs.specs.Witnesses.{handed, list, posted}
 
 -- a lock that one thread hands to another
 abbrev pub HandedIsVerified : Type 0
@@ -9,3 +9,7 @@ HandedIsVerified = IsVerified handed
 -- a list that is gone through by a recursive predicate and a recursive method
 abbrev pub ListIsVerified : Type 0
 ListIsVerified = IsVerified list
+
+-- a counted loop whose first member sends a field to the second one
+abbrev pub PostedIsVerified : Type 0
+PostedIsVerified = IsVerified posted

@@ -1,7 +1,7 @@
 //! Worked programs.
 #![tactic(auto)]
 
-ghost use Rattle.worked_threads_safety.specs.Verified.{HandedIsVerified, ListIsVerified};
+ghost use Rattle.worked_threads_safety.specs.Verified.{HandedIsVerified, ListIsVerified, PostedIsVerified};
 
 /// A lock.
 pub fn a_handed_lock_is_verified()
@@ -11,4 +11,9 @@ pub fn a_handed_lock_is_verified()
 /// On a list that is gone through by a recursive predicate and a recursive method, no evidence makes the judge fail.
 pub fn a_list_is_verified()
     ensures { ListIsVerified }
+{}
+
+/// On a counted loop whose first member sends a field to the second one, no evidence makes the judge fail.
+pub fn a_sent_field_is_verified()
+    ensures { PostedIsVerified }
 {}
