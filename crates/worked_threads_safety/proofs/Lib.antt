@@ -2,4 +2,5 @@ mod Rows
 mod Handed
 mod ListNode
 mod Posted
+mod Relay
 mod Verified

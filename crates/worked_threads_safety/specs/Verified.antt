@@ -1,6 +1,6 @@
 -- Worked programs of threads, blocks and recursive predicates that are verified.
 use Rattle.pv_picks.specs.Verdicts.Theorems.{IsVerified}
-use Rattle.worked_programs.specs.Witnesses.{handed, list, posted}
+use Rattle.worked_programs.specs.Witnesses.{handed, relay, posted, list}
 
 -- a lock that one thread hands to another
 abbrev pub HandedIsVerified : Type 0
@@ -13,3 +13,7 @@ ListIsVerified = IsVerified list
 -- a counted loop whose first member sends a field to the second one
 abbrev pub PostedIsVerified : Type 0
 PostedIsVerified = IsVerified posted
+
+-- a par block whose first member hands a field to the second one at a barrier
+abbrev pub RelayIsVerified : Type 0
+RelayIsVerified = IsVerified relay
