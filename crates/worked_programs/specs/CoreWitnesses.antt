@@ -71,12 +71,17 @@ posted_post = class (name 0) None (IsField ((name 1), type.Int)
     (Then (If (Equal true (Variable (name 3)) (Constant (value.Number (pos 0))))
     (Then (Assign (ToField This (name 0) (name 1) (at 158 159)) (Value' (Constant (value.Number (pos 1)))) (at 158 164)) Stop)
     Stop)
-    (Then (Send (message (name 4) 1 (FieldPermission This (name 0) (name 1) type.Int 5342931457063200 (at 184 198))) (at 173 199))
-    (Then (Receive (message (name 4) 1 (FieldPermission This (name 0) (name 1) type.Int 5342931457063200 (at 184 198)))
-    (at 206 213))
+    (Then
+    (Send
+    (message (name 4) 1 (When (Equal true (Variable (name 3)) (Constant (value.Number (pos 0))))
+    (FieldPermission This (name 0) (name 1) type.Int 5342931457063200 (at 184 209)) (at 184 209))) (at 173 210))
+    (Then
+    (Receive
+    (message (name 4) 1 (When (Equal true (Variable (name 3)) (Constant (value.Number (pos 0))))
+    (FieldPermission This (name 0) (name 1) type.Int 5342931457063200 (at 184 209)) (at 184 209))) (at 217 224))
     (Then (If (Equal true (Variable (name 3)) (Constant (value.Number (pos 1))))
-    (Then (Assign (ToField This (name 0) (name 1) (at 234 235)) (Value' (Constant (value.Number (pos 2)))) (at 234 240)) Stop)
-    Stop) Stop)))) (at 69 248)) Stop) false) ∷ [])
+    (Then (Assign (ToField This (name 0) (name 1) (at 245 246)) (Value' (Constant (value.Number (pos 2)))) (at 245 251)) Stop)
+    Stop) Stop)))) (at 69 259)) Stop) false) ∷ [])
 
 abbrev pub posted : Program
 posted = (posted_post ∷ [])

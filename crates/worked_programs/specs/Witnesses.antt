@@ -110,7 +110,7 @@ relay = record { classes = (relay_relay ∷ []); length = None }
 --         requires i == 0 ==> Perm(v, write);
 --       {
 --         if (i == 0) { v = 1; }
---         send S, 1: Perm(v, write);
+--         send S, 1: i == 0 ==> Perm(v, write);
 --         recv S;
 --         if (i == 1) { v = 2; }
 --       }
@@ -118,11 +118,11 @@ relay = record { classes = (relay_relay ∷ []); length = None }
 --   }
 -- names: Post 0, v 1, post 2, i 3, S 4
 abbrev pub posted_post : Class
-posted_post = class (at 0 254) (word 0 6 10) None
+posted_post = class (at 0 265) (word 0 6 10) None
     (m.Field (param (word 1 19 20) (type_at 15 18 type.Int))
-    ∷ m.Method (method (at 24 252) (word 2 56 60) None []
+    ∷ m.Method (method (at 24 263) (word 2 56 60) None []
     (contract ((clause c.Requires (node 33 47 (k.Perm (node 38 39 (k.Var (word 1 38 39))) 1 1 (at 41 46)))) ∷ []))
-    ((stmt 69 248 (s.For (range (word 3 78 79) (node 82 83 (k.Number 0)) (node 87 88 (k.Number 2)))
+    ((stmt 69 259 (s.For (range (word 3 78 79) (node 82 83 (k.Number 0)) (node 87 88 (k.Number 2)))
     (contract
     ((clause c.Requires
     (node 105 130
@@ -131,11 +131,16 @@ posted_post = class (at 0 254) (word 0 6 10) None
     ((stmt 144 166 (s.If (node 148 154 (k.Binary op.Eq (node 148 149 (k.Var (word 3 148 149))) (node 153 154 (k.Number 0))))
     ((stmt 158 164 (s.Assign (node 158 159 (k.Var (word 1 158 159))) (right 162 163 (r.Value (node 162 163 (k.Number 1)))))) ∷ [])
     []))
-    ∷ (stmt 173 199 (s.Send (word 4 178 179) 1 (node 184 198 (k.Perm (node 189 190 (k.Var (word 1 189 190))) 1 1 (at 192 197)))))
-    ∷ (stmt 206 213 (s.Recv (word 4 211 212)))
     ∷
-    (stmt 220 242 (s.If (node 224 230 (k.Binary op.Eq (node 224 225 (k.Var (word 3 224 225))) (node 229 230 (k.Number 1))))
-    ((stmt 234 240 (s.Assign (node 234 235 (k.Var (word 1 234 235))) (right 238 239 (r.Value (node 238 239 (k.Number 2)))))) ∷ [])
+    (stmt 173 210
+    (s.Send (word 4 178 179) 1
+    (node 184 209
+    (k.Binary op.Implies (node 184 190 (k.Binary op.Eq (node 184 185 (k.Var (word 3 184 185))) (node 189 190 (k.Number 0))))
+    (node 195 209 (k.Perm (node 200 201 (k.Var (word 1 200 201))) 1 1 (at 203 208)))))))
+    ∷ (stmt 217 224 (s.Recv (word 4 222 223)))
+    ∷
+    (stmt 231 253 (s.If (node 235 241 (k.Binary op.Eq (node 235 236 (k.Var (word 3 235 236))) (node 240 241 (k.Number 1))))
+    ((stmt 245 251 (s.Assign (node 245 246 (k.Var (word 1 245 246))) (right 249 250 (r.Value (node 249 250 (k.Number 2)))))) ∷ [])
     [])) ∷ []))) ∷ [])) ∷ [])
 
 abbrev pub posted : Program

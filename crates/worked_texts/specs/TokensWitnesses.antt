@@ -55,12 +55,13 @@ posted =
     ∷ fixed CLOSE_PAREN 129 130 ∷ fixed SEMICOLON 130 131 ∷ fixed OPEN_BRACE 136 137 ∷ fixed IF 144 146 ∷ fixed OPEN_PAREN 147 148
     ∷ named 3 148 149 ∷ fixed EQUAL 150 152 ∷ number 0 153 154 ∷ fixed CLOSE_PAREN 154 155 ∷ fixed OPEN_BRACE 156 157
     ∷ named 1 158 159 ∷ fixed ASSIGN 160 161 ∷ number 1 162 163 ∷ fixed SEMICOLON 163 164 ∷ fixed CLOSE_BRACE 165 166
-    ∷ fixed SEND 173 177 ∷ named 4 178 179 ∷ fixed COMMA 179 180 ∷ number 1 181 182 ∷ fixed COLON 182 183 ∷ fixed PERM 184 188
-    ∷ fixed OPEN_PAREN 188 189 ∷ named 1 189 190 ∷ fixed COMMA 190 191 ∷ fixed WRITE 192 197 ∷ fixed CLOSE_PAREN 197 198
-    ∷ fixed SEMICOLON 198 199 ∷ fixed RECV 206 210 ∷ named 4 211 212 ∷ fixed SEMICOLON 212 213 ∷ fixed IF 220 222
-    ∷ fixed OPEN_PAREN 223 224 ∷ named 3 224 225 ∷ fixed EQUAL 226 228 ∷ number 1 229 230 ∷ fixed CLOSE_PAREN 230 231
-    ∷ fixed OPEN_BRACE 232 233 ∷ named 1 234 235 ∷ fixed ASSIGN 236 237 ∷ number 2 238 239 ∷ fixed SEMICOLON 239 240
-    ∷ fixed CLOSE_BRACE 241 242 ∷ fixed CLOSE_BRACE 247 248 ∷ fixed CLOSE_BRACE 251 252 ∷ fixed CLOSE_BRACE 253 254 ∷ []
+    ∷ fixed SEND 173 177 ∷ named 4 178 179 ∷ fixed COMMA 179 180 ∷ number 1 181 182 ∷ fixed COLON 182 183 ∷ named 3 184 185
+    ∷ fixed EQUAL 186 188 ∷ number 0 189 190 ∷ fixed IMPLIES 191 194 ∷ fixed PERM 195 199 ∷ fixed OPEN_PAREN 199 200
+    ∷ named 1 200 201 ∷ fixed COMMA 201 202 ∷ fixed WRITE 203 208 ∷ fixed CLOSE_PAREN 208 209 ∷ fixed SEMICOLON 209 210
+    ∷ fixed RECV 217 221 ∷ named 4 222 223 ∷ fixed SEMICOLON 223 224 ∷ fixed IF 231 233 ∷ fixed OPEN_PAREN 234 235
+    ∷ named 3 235 236 ∷ fixed EQUAL 237 239 ∷ number 1 240 241 ∷ fixed CLOSE_PAREN 241 242 ∷ fixed OPEN_BRACE 243 244
+    ∷ named 1 245 246 ∷ fixed ASSIGN 247 248 ∷ number 2 249 250 ∷ fixed SEMICOLON 250 251 ∷ fixed CLOSE_BRACE 252 253
+    ∷ fixed CLOSE_BRACE 258 259 ∷ fixed CLOSE_BRACE 262 263 ∷ fixed CLOSE_BRACE 264 265 ∷ []
 
 abbrev pub list : List Lexeme
 list =

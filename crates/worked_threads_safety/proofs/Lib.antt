@@ -3,4 +3,14 @@ mod Handed
 mod ListNode
 mod Posted
 mod Relay
+mod Folds
+mod Trees
+mod Pieces
+mod Forming
+mod HandedFormed
+mod RelayFormed
+mod PostedFormed
+mod ListFormed
+mod MembersRaceFormed
+mod OverwrittenFormed
 mod Verified

@@ -9,7 +9,7 @@ use Rattle.pv_picks.specs.declared.check.Check.TheVariants as check
 use Rattle.pv_picks.specs.declared.evidence.Entry.{Entry}
 use Rattle.pv_picks.specs.declared.unit.Part.TheVariants as part
 use Rattle.pv_picks.specs.declared.unit.PvUnit.{PvUnit}
-use Rattle.pv_picks.specs.Plain.Core.{Constant, This, Variable, Equal, FieldPermission, ToField, Value', Assign, If, Send, Receive, Block, Stop, Then, Statement, Message}
+use Rattle.pv_picks.specs.Plain.Core.{Constant, This, Variable, Equal, FieldPermission, When, ToField, Value', Assign, If, Send, Receive, Block, Stop, Then, Statement, Message}
 use Rattle.pv_picks.specs.Formulas.Values.{no_variables, at_position, within}
 use Rattle.pv_picks.specs.Judge.Rows.{Site}
 use Rattle.pv_picks.specs.Judge.States.{State, Resource, InField, amount_of, nothing_held, with_amount, with_value, with_cell}
@@ -43,17 +43,19 @@ module _ (maps : Maps) (table : List Entry) where
   abbrev second_writes : Block
   second_writes = Then
       (If (Equal true (Variable (name 3)) (Constant (value.Number (pos 1))))
-      (Then (Assign (ToField This (name 0) (name 1) (at 234 235)) (Value' (Constant (value.Number (pos 2)))) (at 234 240)) Stop)
+      (Then (Assign (ToField This (name 0) (name 1) (at 245 246)) (Value' (Constant (value.Number (pos 2)))) (at 245 251)) Stop)
       Stop) Stop
 
   abbrev letter : Message
-  letter = message (name 4) 1 (FieldPermission This (name 0) (name 1) type.Int 5342931457063200 (at 184 198))
+  letter = message (name 4) 1
+      (When (Equal true (Variable (name 3)) (Constant (value.Number (pos 0))))
+      (FieldPermission This (name 0) (name 1) type.Int 5342931457063200 (at 184 209)) (at 184 209))
 
   abbrev receiving : Block
-  receiving = Then (Receive letter (at 206 213)) second_writes
+  receiving = Then (Receive letter (at 217 224)) second_writes
 
   abbrev sending : Block
-  sending = Then (Send letter (at 173 199)) receiving
+  sending = Then (Send letter (at 173 210)) receiving
 
   abbrev first_writes : Block
   first_writes = Then
@@ -88,7 +90,7 @@ module _ (maps : Maps) (table : List Entry) where
       (λ m. gains maps table (name 0) s.this (name 1) _ s h.there none λ z.
       second_ends (with_cell s (field s.this) whole (value.Number z)) (record { there = h.there; position = h.position })
       (rw (same_self s.this) refl))
-      (failed (nat_eq s.this 0) _ _ h.there (picked λ z. finishes)) blocks
+      finishes blocks
 
   first_safe : (s : State) → Stands (pos 0) s → amount_of s (field s.this) ≡ whole → Safe (on (pos 0) first_writes s)
   first_safe s h held =

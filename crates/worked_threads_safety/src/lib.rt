@@ -1,7 +1,7 @@
 //! Worked programs.
 #![tactic(auto)]
 
-ghost use Rattle.worked_threads_safety.specs.Verified.{HandedIsVerified, ListIsVerified, PostedIsVerified, RelayIsVerified};
+ghost use Rattle.worked_threads_safety.specs.Verified.{HandedIsVerified, ListIsVerified, PostedIsVerified, RelayIsVerified, HandedPasses, RelayPasses, PostedPasses, ListPasses};
 
 /// A lock.
 pub fn a_handed_lock_is_verified()
@@ -21,4 +21,24 @@ pub fn a_sent_field_is_verified()
 /// On a par block whose first member hands a field to the second one at a barrier, no evidence makes the judge fail.
 pub fn a_relayed_field_is_verified()
     ensures { RelayIsVerified }
+{}
+
+/// That program is well formed; so by soundness no interleaving of its threads goes wrong, from whichever start.
+pub fn a_handed_lock_passes()
+    ensures { HandedPasses }
+{}
+
+/// So is the one with the barrier.
+pub fn a_relayed_field_passes()
+    ensures { RelayPasses }
+{}
+
+/// So is the one with the message, and its loop that is run freely ends in the heap of its ordered run.
+pub fn a_sent_field_passes()
+    ensures { PostedPasses }
+{}
+
+/// So is the one with the list.
+pub fn a_list_passes()
+    ensures { ListPasses }
 {}
