@@ -13,4 +13,6 @@ mod PostedFormed
 mod ListFormed
 mod MembersRaceFormed
 mod OverwrittenFormed
+mod Starts
 mod Verified
+mod Wrong

@@ -2,6 +2,7 @@
 #![tactic(auto)]
 
 ghost use Rattle.worked_threads_safety.specs.Verified.{HandedIsVerified, ListIsVerified, PostedIsVerified, RelayIsVerified, HandedPasses, RelayPasses, PostedPasses, ListPasses};
+ghost use Rattle.worked_threads_safety.specs.Wrong.{MembersRace, MembersAreNotSafe, MembersAreNotVerified, OverwrittenDisagrees, OverwrittenIsNotVerified};
 
 /// A lock.
 pub fn a_handed_lock_is_verified()
@@ -41,4 +42,25 @@ pub fn a_sent_field_passes()
 /// So is the one with the list.
 pub fn a_list_passes()
     ensures { ListPasses }
+{}
+
+/// Two members of a par block stand before writes of one field.
+pub fn members_race()
+    ensures race { MembersRace }
+    ensures wrong { MembersAreNotSafe }
+{}
+
+/// That program is well formed; so by soundness some evidence makes the judge fail.
+pub fn racing_members_are_not_verified()
+    ensures { MembersAreNotVerified }
+{}
+
+/// A counted loop whose members write one field, each another value, doesn't end alike freely and in order.
+pub fn members_that_overwrite_disagree()
+    ensures { OverwrittenDisagrees }
+{}
+
+/// That program is well formed too; so by loop agreement some evidence makes the judge fail.
+pub fn overwriting_members_are_not_verified()
+    ensures { OverwrittenIsNotVerified }
 {}
