@@ -113,6 +113,18 @@ first_goes_on threads o i f below stack r rs has g s goes = record {
   closes = λ h hs b ts e at. goes.closes b ts (ap (λ z. z.tasks) (first_same g h below hs e) ∙ at);
 }
 
+-- a thread ends
+pub ends : (threads : ℕ → Thread) (o : Owners) (i : ℕ) (f : Frame) → (threads i).frames ≡ f ∷ [] → f.tasks ≡ []
+    → GoesOn threads o i [] []
+ends threads o i f stack over = record {
+  bottom = λ P stays h. tt;
+  messages = λ S R h. tt;
+  live = ap has_no_frame stack;
+  stood = λ h hs b ts e at.
+      let same = ap (λ z. z.tasks) (first_same f h [] hs (sym stack ∙ e)) in absurd (cc (over, same, at));
+  closes = λ h hs b ts e at. absurd (cc e);
+}
+
 -- who has a frame that is at no barrier left nothing that is asked for
 pub leaves_nothing : (p : Program) (flags : ℕ → Bool) (heap : Heap) (role : Role) (blocks : ℕ → OpenBlock) (o : Owners)
     (g : Frame) (below : List Frame) (runs : List Run) (left : Amounts)

@@ -26,7 +26,7 @@ use Rattle.account.proofs.LocalWork.{settled_goes, below_settled}
 use Rattle.account.proofs.Stepping.{by_run}
 use Rattle.account.proofs.Later.{grown_same, keeps_same}
 use Rattle.account.proofs.Bottom.{bottom_exchanges, stays_at_bottom}
-use Rattle.account.proofs.Moving.{first_same, closes_not, settled_leaves_not, leaves_nothing}
+use Rattle.account.proofs.Moving.{first_same, ends, closes_not, settled_leaves_not, leaves_nothing}
 use Rattle.account.proofs.Onward.{nothing_new, Moves, accounted}
 use Rattle.account.proofs.Ended.{end_met}
 use Rattle.account_calls.proofs.Returning.{ReturnGoes, returns_go}
@@ -129,13 +129,7 @@ module _ (p : Program) (w : World) (sound : HeapFits p w.heap) (framed : Predica
     entry_moves = record {
       runs = [];
       fits = tt;
-      goes = record {
-        bottom = λ P stays b. tt;
-        messages = λ S R b. tt;
-        live = ap has_no_frame stands_at;
-        stood = λ h hs b ts e at. no_task_waits f h [] hs b ts over (sym stands_at ∙ e) at;
-        closes = λ h hs b ts e at. absurd (cc e);
-      };
+      goes = ends w.threads a.owners i f stands_at over;
       leaves = record {
         ended = λ b position role none. absurd (cc (entry, role));
         arrived = λ b position role. absurd (cc (entry, role));

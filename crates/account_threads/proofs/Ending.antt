@@ -1,31 +1,19 @@
 -- A thread that is no member ends: what is said of threads, roles, blocks and mail goes on to hold.
-use Rattle.std.proofs.Common.{◌≡◌, ℕ, ℤ, Bool, [], ◌∷◌, ap, sym, ◌∙◌}
+use Rattle.std.proofs.Common.{◌≡◌, ℕ, ℤ, Bool, [], ◌∷◌}
 use Rattle.pv_picks.specs.Plain.Core.{Program}
 use Rattle.pv_picks.specs.Formulas.Heaps.{Heap, at_number}
 use Rattle.pv_picks.specs.Machine.Frames.{Frame}
-use Rattle.pv_picks.specs.Machine.Worlds.{Role, Entry, RunOf, MemberOf, ThreadState, Thread, OpenBlock, has_no_frame}
+use Rattle.pv_picks.specs.Machine.Worlds.{Role, Entry, RunOf, MemberOf, ThreadState, Thread, OpenBlock}
 use Rattle.account_formulas.specs.Owning.{Amounts}
 use Rattle.account.specs.Owners.{Owners}
 use Rattle.account.specs.Objects.{RoleFits}
-use Rattle.account.proofs.Moving.{first_same, Families, GoesOn, others_here, owners_with, families_moved}
+use Rattle.account.proofs.Moving.{Families, ends, others_here, owners_with, families_moved}
 
 pub no_role : (p : Program) (flags : ℕ → Bool) (heap : Heap) (state : ℕ → ThreadState) (i : ℕ) (role : Role)
     → RoleFits p flags heap state i role [] []
 no_role p flags heap state i Entry = tt
 no_role p flags heap state i (RunOf x) = tt
 no_role p flags heap state i (MemberOf b position) = tt
-
-module _ (threads : ℕ → Thread) (o : Owners) (i : ℕ) (f : Frame) (stack : (threads i).frames ≡ f ∷ []) (over : f.tasks ≡ [])
-  where
-    pub ends : GoesOn threads o i [] []
-    ends = record {
-      bottom = λ P stays h. tt;
-      messages = λ S R h. tt;
-      live = ap has_no_frame stack;
-      stood = λ h hs b ts e at.
-          let same = ap (λ z. z.tasks) (first_same f h [] hs (sym stack ∙ e)) in absurd (cc (over, same, at));
-      closes = λ h hs b ts e at. absurd (cc e);
-    }
 
 pub families_end : (p : Program) (flags : ℕ → Bool) (heap : Heap) (count : ℕ) (threads : ℕ → Thread) (block_count : ℕ)
     (blocks : ℕ → OpenBlock) (state : ℕ → ThreadState) (o : Owners) (i : ℕ) (f : Frame) → (threads i).frames ≡ f ∷ []
