@@ -18,4 +18,6 @@ pub mod Homes
 mod Laws
 pub mod Locks
 pub mod Bottom
+pub mod Moving
+pub mod Onward
 pub mod Together

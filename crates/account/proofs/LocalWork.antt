@@ -43,6 +43,7 @@ use Rattle.account_formulas.proofs.Lengths.{empty_table}
 use Rattle.account_formulas.proofs.Exhaling.{TreeTaken, tree_taken}
 use Rattle.account_formulas.proofs.Raising.{settled_on}
 use Rattle.account_formulas.proofs.Gaining.{body_place, formula_gains}
+use Rattle.account_formulas.specs.Still.{IsStill}
 use Rattle.account_formulas.proofs.Still.{settled_still}
 use Rattle.account.specs.Running.{ran}
 use Rattle.account.specs.Scoped.{Standing, MayAssign, IsBlockIn, TasksSay, evaluates, evaluates_none, evaluates_more, negates, computes, compares, matches, chooses, parts, puts_new, drops, unfolded, runs}
@@ -193,6 +194,17 @@ block_says c xs given inner s b rest outer after (inl (fits, says, more), may, s
 block_says c xs given inner s b rest outer after (inr (x, declared, more), may, stays) within g good =
     block_declares c xs given inner s b rest outer after x declared may.0 (more, may.1, stays_rest c.loops s b stays) within g
     good
+
+-- the call that a frame is, where only its state and its tasks changed
+pub called_same : (f g : Frame) (r s : account.Run) → IsStill f g → s.past ≡ r.past → s.body ≡ r.body
+    → called_of g s ≡ called_of f r
+called_same f g r s still past body =
+    ap (λ z. record { class = z; method = g.method; this = g.this; begun = g.begun; past = s.past; body = s.body }) still.class
+    ∙ ap (λ z. record { class = f.class; method = z; this = g.this; begun = g.begun; past = s.past; body = s.body }) still.method
+    ∙ ap (λ z. record { class = f.class; method = f.method; this = z; begun = g.begun; past = s.past; body = s.body }) still.this
+    ∙ ap (λ z. record { class = f.class; method = f.method; this = f.this; begun = z; past = s.past; body = s.body }) still.begun
+    ∙ ap (λ z. record { class = f.class; method = f.method; this = f.this; begun = f.begun; past = z; body = s.body }) past
+    ∙ ap (λ z. record { class = f.class; method = f.method; this = f.this; begun = f.begun; past = r.past; body = z }) body
 
 module _ (p : Program) (flags : ℕ → Bool) (present : Heap) (sound : HeapFits p present) (framed : PredicatesFit p present) where
   -- the run of a statement is that of its tasks
@@ -512,37 +524,7 @@ module _ (p : Program) (flags : ℕ → Bool) (present : Heap) (sound : HeapFits
   -- the call of a frame stays the same over local work
   pub called_settled : (f : Frame) (r : account.Run) (g : Goes p flags present (settled f) r)
       → called_of (settled f) g.run ≡ called_of f r
-  called_settled f r g =
-      let k = settled_still f in
-      ap (λ z. record {
-        class = z;
-        method = (settled f).method;
-        this = (settled f).this;
-        begun = (settled f).begun;
-        past = g.run.past;
-        body = g.run.body;
-      }) k.class
-      ∙ ap (λ z. record {
-        class = f.class;
-        method = z;
-        this = (settled f).this;
-        begun = (settled f).begun;
-        past = g.run.past;
-        body = g.run.body;
-      }) k.method
-      ∙ ap (λ z. record {
-        class = f.class;
-        method = f.method;
-        this = z;
-        begun = (settled f).begun;
-        past = g.run.past;
-        body = g.run.body;
-      }) k.this
-      ∙ ap (λ z. record { class = f.class; method = f.method; this = f.this; begun = z; past = g.run.past; body = g.run.body })
-      k.begun
-      ∙ ap (λ z. record { class = f.class; method = f.method; this = f.this; begun = f.begun; past = z; body = g.run.body })
-      g.past
-      ∙ ap (λ z. record { class = f.class; method = f.method; this = f.this; begun = f.begun; past = r.past; body = z }) g.body
+  called_settled f r g = called_same f (settled f) r g.run (settled_still f) g.past g.body
 
   -- so the frames below go on to wait for it
   pub below_settled : (f : Frame) (r : account.Run) (g : Goes p flags present (settled f) r) (fs : List Frame)

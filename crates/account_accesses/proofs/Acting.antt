@@ -1,10 +1,11 @@
 -- A step of an accounted thread at its first frame, and the world after it.
-use Rattle.std.proofs.Common.{◌≡◌, ℕ, suc, ◌+◌, ◌≤◌, ◌<◌, Bool, true, false, Option, List, [], ◌∷◌, refl, ap, sym, subst, ◌∙◌, arith}
+use Rattle.std.proofs.Common.{◌≡◌, ℕ, suc, ◌+◌, ◌≤◌, ◌<◌, Bool, true, false, Option, List, [], ◌∷◌, refl, ap, sym, subst, arith}
 use Rattle.std.specs.Prelude.{not}
 use Rattle.pv_values.specs.declared.value.Value.{Value}
 use Rattle.pv_values.specs.declared.value.Location.{Location}
 use Rattle.pv_fraction.specs.Amounts.{whole}
 use Rattle.pv_picks.specs.Plain.Core.{Message, Program}
+use Rattle.pv_picks.specs.Formulas.Heaps.{Heap}
 use Rattle.pv_picks.specs.Judge.States.{Resource}
 use Rattle.pv_picks.specs.Machine.Tasks.{AtClose, Step, Task, Stand}
 use Rattle.pv_picks.specs.Machine.Frames.{Frame, settled}
@@ -14,21 +15,19 @@ use Rattle.account_formulas.specs.Growing.{HeapFits}
 use Rattle.account_formulas.specs.Gaining.{PredicatesFit}
 use Rattle.account_formulas.specs.Owning.{Amounts, KeepsHeld}
 use Rattle.account_formulas.specs.Still.{IsStill}
-use Rattle.account_formulas.proofs.Still.{settled_still}
 use Rattle.account.specs.Scoped.{TasksSay}
 use Rattle.account.specs.Frames as account
 use Rattle.account.specs.Frames.{amounts_of, all_of, standing_in, called_of, IsRunOf, AllWait, AreRunsOf}
-use Rattle.account.specs.Owners.{at_thread, total}
+use Rattle.account.specs.Owners.{nothing, at_thread, total}
 use Rattle.account.specs.Messages.{TasksExchange}
 use Rattle.account.specs.Accounts.{Account, Kept}
 use Rattle.account.proofs.Sums.{part_of}
-use Rattle.account.proofs.Exchanging.{settled_exchanges}
 use Rattle.account.specs.Going.{Goes}
-use Rattle.account.proofs.Working.{not_closing, not_leaving}
-use Rattle.account.proofs.LocalWork.{settled_goes, below_settled}
+use Rattle.account.proofs.LocalWork.{called_same, settled_goes, below_settled}
 use Rattle.account_accesses.specs.Standing.{StandsAt}
 use Rattle.account.proofs.Later.{Grown, grown_same, keeps_same}
-use Rattle.account_accesses.proofs.Onward.{goes_on_accounted}
+use Rattle.account.proofs.Moving.{settles, settled_leaves_not, first_goes_on, leaves_nothing}
+use Rattle.account.proofs.Onward.{nothing_new, accounted}
 
 -- a thread that stands at a step does it or waits
 pub acts : (p : Program) (w : World) (a : Account p w) (i : ℕ) (mode : Mode) (step : Step) (f : Frame) (below : List Frame)
@@ -61,17 +60,6 @@ pub runs_at_most : (p : Program) (w : World) (a : Account p w) (i : ℕ) → i <
 runs_at_most p w a i inside q =
     let one = part_of (λ j. at_thread a.owners j q) w.count i inside in let two = a.sums.most q in omega (arith, one, two)
 
--- the call that a frame is, where only its state and its tasks changed
-pub called_same : (f g : Frame) (r s : account.Run) → IsStill f g → s.past ≡ r.past → s.body ≡ r.body
-    → called_of g s ≡ called_of f r
-called_same f g r s still past body =
-    ap (λ z. record { class = z; method = g.method; this = g.this; begun = g.begun; past = s.past; body = s.body }) still.class
-    ∙ ap (λ z. record { class = f.class; method = z; this = g.this; begun = g.begun; past = s.past; body = s.body }) still.method
-    ∙ ap (λ z. record { class = f.class; method = f.method; this = z; begun = g.begun; past = s.past; body = s.body }) still.this
-    ∙ ap (λ z. record { class = f.class; method = f.method; this = f.this; begun = z; past = s.past; body = s.body }) still.begun
-    ∙ ap (λ z. record { class = f.class; method = f.method; this = f.this; begun = f.begun; past = z; body = s.body }) past
-    ∙ ap (λ z. record { class = f.class; method = f.method; this = f.this; begun = f.begun; past = r.past; body = z }) body
-
 -- a thread has done its step, up to its local work, over a later heap
 pub record Stepped (p : Program) (w : World) (a : Account p w) (i : ℕ) (f : Frame) (below : List Frame)
     (value : Location → Option Value) (g : Frame) : Type 1 where
@@ -94,48 +82,37 @@ pub record Stepped (p : Program) (w : World) (a : Account p w) (i : ℕ) (f : Fr
   pub heap : HeapFits p (record w.heap { value = value })
   pub predicates : PredicatesFit p (record w.heap { value = value })
 
+-- a world's heap with other values
+abbrev later : World → (Location → Option Value) → Heap
+later w value = record w.heap { value = value }
+
 -- the world after its local work is accounted for
 pub steps_on : (p : Program) (w : World) (a : Account p w) (i : ℕ) → i < w.count → (f : Frame) (below : List Frame)
     → (w.threads i).frames ≡ f ∷ below → (value : Location → Option Value) (g : Frame) → Stepped p w a i f below value g
     → Account p (with_heap (with_frames w i (settled g ∷ below)) (record w.heap { value = value }))
-steps_on p w a i inside f below stack value g s = goes_on_accounted p w a i inside f below stack value (settled g) (record {
-  run = done.run;
-  old = s.old;
-  others = s.others;
-  had = s.had;
+steps_on p w a i inside f below stack value g s = accounted p w a i inside (later w value) (settled g ∷ below) (record {
+  runs = done.run ∷ s.others;
   fits = (
     done.fits,
-    below_settled p w.committed (record w.heap { value = value }) s.heap s.predicates g s.run done below s.others
-        (subst (λ c. AllWait p w.committed (record w.heap { value = value }) c below s.others)
+    below_settled p w.committed (later w value) s.heap s.predicates g s.run done below s.others
+        (subst (λ c. AllWait p w.committed (later w value) c below s.others)
         (sym (called_same f g s.old s.run s.still s.past s.body)) s.waits),
   );
-  less = λ q. let one = done.less q in let two = s.less q in omega (arith, one, two);
-  still = let k = settled_still g in record {
-    class = k.class ∙ s.still.class;
-    method = k.method ∙ s.still.method;
-    this = k.this ∙ s.still.this;
-    begun = k.begun ∙ s.still.begun;
-    old = k.old ∙ s.still.old;
-  };
-  body = done.body ∙ s.body;
-  stood = s.stood;
-  closes =
-      λ block ts is. not_closing (standing_in p (settled g).class done.run.body done.run.outer) done.run.inner done.run.scope
-      done.run.given done.run.stack block ts
-      (subst (λ tasks. TasksSay (standing_in p (settled g).class done.run.body done.run.outer) done.run.inner done.run.scope
-      done.run.given done.run.stack tasks) is done.says);
-  leaves =
-      λ barrier span ts is. not_leaving (standing_in p (settled g).class done.run.body done.run.outer) done.run.inner
-      done.run.scope done.run.given done.run.stack barrier span ts
-      (subst (λ tasks. TasksSay (standing_in p (settled g).class done.run.body done.run.outer) done.run.inner done.run.scope
-      done.run.given done.run.stack tasks) is done.says);
-  messages = λ S R h. settled_exchanges S R g (s.messages S R h);
+  goes = first_goes_on w.threads a.owners i f below stack s.old s.others s.had (settled g) done.run
+      (settles p w.committed (later w value) f g s.old s.run s.still s.body done s.stood s.messages);
+  leaves = leaves_nothing p w.committed (later w value) (w.threads i).role w.blocks a.owners (settled g) below (done.run ∷ s.others)
+      (a.owners.left i) (settled_leaves_not p w.committed (later w value) g s.run done);
+  fresh = nothing;
+  less = λ q. let one = done.less q in let two = s.less q in let same = ap (λ rs. all_of rs q) s.had in
+      omega (arith, one, two, same);
+  new = nothing_new p w a (later w value) refl;
   grown = s.grown;
-  keeps = s.keeps;
+  null = λ class is. is;
+  keeps = λ B less. s.keeps B (λ q. let l = less q in let same = ap (λ rs. all_of rs q) s.had in omega (arith, l, same));
 })
   where
-    done : Goes p w.committed (record w.heap { value = value }) (settled g) s.run
-    done = settled_goes p w.committed (record w.heap { value = value }) s.heap s.predicates g s.run s.fits s.says (λ q.
+    done : Goes p w.committed (later w value) (settled g) s.run
+    done = settled_goes p w.committed (later w value) s.heap s.predicates g s.run s.fits s.says (λ q.
         let one = runs_at_most p w a i inside q in
         let same = ap (λ rs. all_of rs q) s.had in
         let less = s.less q in omega (arith, one, same, less))

@@ -1,4 +1,3 @@
-pub mod Onward
 pub mod Acting
 pub mod Reading
 pub mod Places

@@ -6,7 +6,6 @@ use Rattle.pv_base.specs.declared.Name.{Name}
 use Rattle.pv_base.specs.declared.Span.{Span}
 use Rattle.pv_ast.specs.declared.PvType.TheVariants.{Int}
 use Rattle.pv_values.specs.declared.value.Value.TheVariants as value
-use Rattle.pv_base.specs.Names.{same_name}
 use Rattle.pv_picks.specs.declared.check.Check.TheVariants as check
 use Rattle.pv_picks.specs.Plain.Core.{Barrier, Program, Shared}
 use Rattle.pv_picks.specs.Formulas.Heaps.{at_number}
@@ -42,10 +41,11 @@ use Rattle.pv_picks.proofs.Sames.{naturals_same}
 use Rattle.account.specs.Frames.{Run, all_of, home_in, IsRunOf}
 use Rattle.account.specs.Owners.{carried_by, without_locks}
 use Rattle.account.specs.Blocks.{scene_at, FormsAreAlike, HasArrived}
-use Rattle.account.specs.Messages.{TasksExchange, bottom_tasks, IsKnown, ReceivesNone}
+use Rattle.account.specs.Messages.{TasksExchange}
 use Rattle.account.specs.Accounts.{Account, Kept}
 use Rattle.account.proofs.Sums.{sum_less, at_same, at_other}
-use Rattle.account_blocks.proofs.Moving.{thread_with, moved}
+use Rattle.account.proofs.Moving.{first_same, GoesOn, first_goes_on, others_here, still_receives}
+use Rattle.account_blocks.proofs.Moving.{as_member_of, moved}
 use Rattle.account_blocks.proofs.Sites.{StandsAt, site_scene, site_fits, place_at, same_scenes, at_own, at_an_arrival, goes_behind}
 use Rattle.account_blocks.proofs.Messages.{nothing_fits}
 use Rattle.account_blocks.proofs.Members.{member, Stood, stood, scenes_agree, part_of_all}
@@ -223,35 +223,49 @@ module _ (p : Program) (w : World) (a : Account p w) (sound : HeapFits p w.heap)
       given_fits refl refl (goes_on_same k.run.taken) gave.has_trees (arrival.speaks, arrival.tasks) arrival.outer
       (never_turn k.run.taken turns 2 refl gave.never)
 
-  known : TasksExchange (IsKnown (a.owners.messages b)) (IsKnown (a.owners.messages b)) (Stand (AtArrive barrier span) ∷ rest)
-  known = subst (λ ts. TasksExchange (IsKnown (a.owners.messages b)) (IsKnown (a.owners.messages b)) ts) is
-      (subst (λ fs. TasksExchange (IsKnown (a.owners.messages b)) (IsKnown (a.owners.messages b)) (bottom_tasks fs)) stack
-      (a.mail.known i inside b spot role))
-
-  arrived : Account p (with_frames w i (behind ∷ []))
-  arrived = moved p w a i inside f stack b spot role k.run k.has_runs behind run left a.owners.mail (record {
-    fits = run_fits;
+  goes : GoesOn w.threads a.owners i (behind ∷ []) (run ∷ [])
+  goes = first_goes_on w.threads a.owners i f [] stack k.run [] k.has_runs behind run (record {
     still = record { class = refl; method = refl; this = refl; begun = refl; old = refl };
     body = refl;
+    stood = λ c ts e. let z = first_step (AtArrive barrier span) (AtClose c) rest ts (sym is ∙ e) in absurd (cc z);
+    closes = λ c ts e. let z = first_step (AtLeave barrier span) (AtClose c) rest ts e in absurd (cc z);
+    messages = λ S R h. (tt, (subst (TasksExchange S R) is h).1);
+  })
+
+  -- it has arrived there as the member that it is
+  has_arrived : (c : ℕ) (position : ℤ) → (w.threads i).role ≡ MemberOf c position → (h : Frame) (q : Run) (qs : List Run)
+      (other : Barrier) (place : Span) (others : List Task) → behind ∷ [] ≡ h ∷ [] → run ∷ [] ≡ q ∷ qs
+      → h.tasks ≡ Stand (AtLeave other place) ∷ others
+      → HasArrived p w.committed w.heap (a.owners.openings c) (w.blocks c) position other q (left i)
+  has_arrived c position is' h q qs other place others e has t =
+      subst (λ z. HasArrived p w.committed w.heap (a.owners.openings c) (w.blocks c) position other z (left i))
+      (first_same run q [] qs has)
+      (subst (λ z. HasArrived p w.committed w.heap (a.owners.openings c) (w.blocks c) position z run (left i))
+      (same_barrier barrier other span place (first_step (AtLeave barrier span) (AtLeave other place) rest others
+      (ap (λ z. z.tasks) (first_same behind h [] [] e) ∙ t)))
+      (subst (λ z. HasArrived p w.committed w.heap (a.owners.openings c) (w.blocks c) position barrier run z)
+      (sym (at_same i part a.owners.left))
+      (as_member_of b spot (w.threads i).role role (λ d z. HasArrived p w.committed w.heap (a.owners.openings d) (w.blocks d) z
+      barrier run part) (record {
+        alike = alike;
+        owns = goes_on_locked p w.committed w.heap (scene_at (a.owners.openings b) (w.blocks b).team spot)
+            barrier.shared.one.before gave.part leaves;
+        meets = never_turn k.run.taken turns 0 refl gave.never;
+      }) c position is')))
+
+  arrived : Account p (with_frames w i (behind ∷ []))
+  arrived = moved p w a i (behind ∷ []) (run ∷ []) left a.owners.mail inside (record {
+    fits = (run_fits, tt);
+    goes = goes;
     less = λ q. sum_less _ _ w.count (λ j. less_at j q (nat_eq j i) refl);
-    locks = λ class x. let s = gave.sum (OfLock class x) in omega (arith, s);
+    locks = λ class x. let s = gave.sum (OfLock class x) in let had = ap (λ z. all_of z (OfLock class x)) k.has_runs in
+        omega (arith, s, had);
     no_locks = λ j l class x. locks_at j l class x (nat_eq j i);
     stays = λ j e. at_other i j part a.owners.left e;
-    was_open = λ c ts e. let z = first_step (AtArrive barrier span) (AtClose c) rest ts (sym is ∙ e) in absurd (cc z);
-    is_open = λ c ts e. let z = first_step (AtLeave barrier span) (AtClose c) rest ts e in absurd (cc z);
-    arrived = λ other span' others e.
-        subst (λ z. HasArrived p w.committed w.heap (a.owners.openings b) (w.blocks b) spot z run (left i))
-        (same_barrier barrier other span span' (first_step (AtLeave barrier span) (AtLeave other span') rest others e))
-        (subst (λ z. HasArrived p w.committed w.heap (a.owners.openings b) (w.blocks b) spot barrier run z)
-        (sym (at_same i part a.owners.left)) (record {
-          alike = alike;
-          owns = goes_on_locked p w.committed w.heap (scene_at (a.owners.openings b) (w.blocks b).team spot)
-              barrier.shared.one.before gave.part leaves;
-          meets = never_turn k.run.taken turns 0 refl gave.never;
-        }));
-    exchanges = (tt, known.1);
+    enough = record { ended = λ c position is' none. absurd (cc none); arrived = has_arrived };
     there = λ j l c position is' label some was. a.mail.there j l c position is' label
-        (receives_still j label (nat_eq j i) refl some) was;
+        (still_receives p w.committed w.heap w.heap w.count w.threads a.owners i (others_here w.heap w.count a.owners i)
+        (behind ∷ []) (run ∷ []) goes j label some) was;
   })
     where
       less_at : (j : ℕ) (q : Resource) (x : Bool) → nat_eq j i ≡ x
@@ -268,16 +282,6 @@ module _ (p : Program) (w : World) (a : Account p w) (sound : HeapFits p w.heap)
           → (if t then part else a.owners.left j) (OfLock class x) + carried_by (a.owners.mail j) (OfLock class x) ≡ 0
       locks_at j l class x false = a.locks.threads j l class x
       locks_at j l class x true = let z = a.locks.threads j l class x in omega (arith, z)
-
-      receives_still : (j : ℕ) (label : Name) (x : Bool) → nat_eq j i ≡ x
-          → (ReceivesNone label (thread_with w i behind x j).frames → ⊥) → ReceivesNone label (w.threads j).frames → ⊥
-      receives_still j label false e some none = some none
-      receives_still j label true e some none =
-          some (
-            tt,
-            (subst (λ ts. TasksExchange (λ m. Unit {0}) (λ m. same_name label m.label ≡ false) ts) is
-                (subst (λ fs. ReceivesNone label fs) (ap (λ z. (w.threads z).frames) (naturals_same j i e) ∙ stack) none)).1,
-          )
 
   settled_there : settled behind ≡ behind
   settled_there = by (size_of_tasks behind.tasks)

@@ -21,7 +21,7 @@ use Rattle.account.specs.Blocks.{scene_at, WaitsForMembers, IsMember, HasArrived
 use Rattle.account.specs.Messages.{TasksExchange, bottom_tasks, IsKnown, ReceivesNone}
 use Rattle.account.specs.Accounts.{Account}
 use Rattle.account.proofs.Sums.{sums_less}
-use Rattle.account_blocks.proofs.Moving.{same_head}
+use Rattle.account.proofs.Moving.{first_same}
 use Rattle.account_blocks.proofs.Numbers.{number_of_member, each_one}
 use Rattle.account.proofs.Bottom.{role_moves, member_moves}
 
@@ -79,7 +79,7 @@ module _ (p : Program) (w : World) (a : Account p w) (i : ℕ) (inside : i < w.c
         → (thread_on w i g below x o).frames ≡ h ∷ hs → h.tasks ≡ Stand (AtClose d) ∷ more
         → ((w.threads o).frames ≡ h ∷ hs) × (x ≡ false)
     waits_apart o d h hs more false e t = (e, refl)
-    waits_apart o d h hs more true e t = absurd (m.is_open d more (ap (λ z. z.tasks) (same_head g h below hs e) ∙ t))
+    waits_apart o d h hs more true e t = absurd (m.is_open d more (ap (λ z. z.tasks) (first_same g h below hs e) ∙ t))
 
     -- a member of the block has ended
     member_has_ended : (j : ℕ) → is_member (w.blocks c) j ≡ true → has_no_frame (w.threads j).frames ≡ true
@@ -134,7 +134,7 @@ module _ (p : Program) (w : World) (a : Account p w) (i : ℕ) (inside : i < w.c
         → (thread_on w i g below x (w.blocks d).opener).frames ≡ k.frame ∷ k.below
     opener_stays j d position live k false e = k.stack
     opener_stays j d position live k true e =
-        let frame : f ≡ k.frame = same_head f k.frame below k.below
+        let frame : f ≡ k.frame = first_same f k.frame below k.below
         (sym stack ∙ (ap (λ z. (w.threads z).frames) (sym (naturals_same (w.blocks d).opener i e)) ∙ k.stack)) in
         let one : c ≡ d = first_close c d rest k.rest (sym tasks ∙ (ap (λ z. z.tasks) frame ∙ k.waits)) in
         let less = subst (λ z. k.number < member_count (w.blocks z)) (sym one) k.less in
@@ -181,7 +181,7 @@ module _ (p : Program) (w : World) (a : Account p w) (i : ℕ) (inside : i < w.c
             → HasArrived p w.committed w.heap (a.owners.openings d) (w.blocks d) position barrier q (a.owners.left j)
         arrived_at false h q qs barrier span others e has t = k.arrived h q qs barrier span others e has t
         arrived_at true h q qs barrier span others e has t =
-            absurd (m.leaves barrier span others (ap (λ z. z.tasks) (same_head g h below [] e) ∙ t))
+            absurd (m.leaves barrier span others (ap (λ z. z.tasks) (first_same g h below [] e) ∙ t))
 
     exchange_below : (S R : Message → Type 0) (xs : List Frame) → TasksExchange S R (bottom_tasks (f ∷ xs))
         → TasksExchange S R (bottom_tasks (g ∷ xs))

@@ -31,7 +31,7 @@ use Rattle.account.specs.Going.{Goes}
 use Rattle.account.proofs.Working.{not_closing, not_leaving}
 use Rattle.account.proofs.Exchanging.{settled_exchanges}
 use Rattle.account.proofs.Sums.{part_of, sums_less}
-use Rattle.account_blocks.proofs.Moving.{same_head}
+use Rattle.account.proofs.Moving.{first_same}
 use Rattle.account_blocks.proofs.Members.{Opener, opener, Stood, stood}
 use Rattle.account.specs.Objects.{AtBottom, RoleFits}
 use Rattle.account_blocks.proofs.Numbers.{shares_up, given_up, taken_up, none_up, is_member_at, number_of_member, number_from, its_number, parts_of_members, each_one, position_number}
@@ -200,7 +200,7 @@ module _ (p : Program) (w : World) (a : Account p w) (sound : HeapFits p w.heap)
         done.run.given done.run.stack d ts
         (subst (λ z. TasksSay (standing_in p (stands j e).frame.class done.run.body done.run.outer) done.run.inner
         done.run.scope done.run.given done.run.stack z)
-        (ap (λ z. z.tasks) (same_head (settled (goes_on (stands j e).frame (stands j e).rest)) h [] hs
+        (ap (λ z. z.tasks) (first_same (settled (goes_on (stands j e).frame (stands j e).rest)) h [] hs
         (sym frames_then ∙ sym same ∙ is')) ∙ t) says_then)
 
   abbrev run_at : (j : ℕ) (x : Bool) → is_member (w.blocks b) j ≡ x → List Run
@@ -304,7 +304,7 @@ module _ (p : Program) (w : World) (a : Account p w) (sound : HeapFits p w.heap)
   opener_stays o d h hs more is' t false e = is'
   opener_stays o d h hs more is' t true e =
       let tasks : Stand (AtLeave barrier (stands o e).span) ∷ (stands o e).rest ≡ Stand (AtClose d) ∷ more =
-      sym (stands o e).stands ∙ (ap (λ z. z.tasks) (same_head (stands o e).frame h [] hs (sym (stands o e).stack ∙ is')) ∙ t) in
+      sym (stands o e).stands ∙ (ap (λ z. z.tasks) (first_same (stands o e).frame h [] hs (sym (stands o e).stack ∙ is')) ∙ t) in
       absurd (cc tasks)
 
   member_runs : (j d : ℕ) (position : ℤ) → (w.threads j).role ≡ MemberOf d position
@@ -356,7 +356,7 @@ module _ (p : Program) (w : World) (a : Account p w) (sound : HeapFits p w.heap)
         (done j e).run.scope (done j e).run.given (done j e).run.stack other at others
         (subst (λ z. TasksSay (standing_in p (stands j e).frame.class (done j e).run.body (done j e).run.outer)
         (done j e).run.inner (done j e).run.scope (done j e).run.given (done j e).run.stack z)
-        (ap (λ z. z.tasks) (same_head (settled (goes_on (stands j e).frame (stands j e).rest)) h [] []
+        (ap (λ z. z.tasks) (first_same (settled (goes_on (stands j e).frame (stands j e).rest)) h [] []
         (sym (frames_then j e) ∙ subst (λ x. (thread_at x j).frames ≡ h ∷ []) e' is'')) ∙ t) (says_then j e)));
   }
 

@@ -2,30 +2,28 @@
 use Rattle.std.proofs.Common.{◌≡◌, ℕ, ◌+◌, ◌≤◌, ◌<◌, ℤ, pos, Bool, true, false, if◌then◌else◌, List, [], ◌∷◌, refl, ap, sym, subst, ◌∙◌, arith}
 use Rattle.std.specs.Prelude.{nat_eq, ◌-ℤ◌}
 use Rattle.pv_base.specs.declared.Name.{Name}
-use Rattle.pv_base.specs.Names.{same_name}
 use Rattle.pv_fraction.specs.Amounts.{whole}
 use Rattle.pv_picks.specs.Plain.Core.{Program}
 use Rattle.pv_picks.specs.Formulas.Heaps.{at_number}
 use Rattle.pv_picks.specs.Judge.States.{Resource, OfLock}
 use Rattle.pv_picks.specs.Machine.Tasks.{AtClose, Step, Task, Stand}
 use Rattle.pv_picks.specs.Machine.Frames.{Frame, goes_on, settled}
-use Rattle.pv_picks.specs.Machine.Worlds.{MemberOf, World}
+use Rattle.pv_picks.specs.Machine.Worlds.{MemberOf, World, with_frames}
 use Rattle.account_formulas.specs.Owning.{Amounts}
 use Rattle.account_formulas.specs.Growing.{HeapFits}
 use Rattle.account_formulas.specs.Gaining.{PredicatesFit}
-use Rattle.account_formulas.proofs.Still.{settled_still}
 use Rattle.account.specs.Scoped.{TasksSay}
-use Rattle.account.specs.Frames.{Run, amounts_of, standing_in, IsRunOf}
+use Rattle.account.specs.Frames.{Run, amounts_of, all_of, standing_in, IsRunOf}
 use Rattle.account.specs.Owners.{Mail, sum_below, at_thread, lies_at}
 use Rattle.pv_picks.proofs.Sames.{naturals_same}
 use Rattle.account.specs.Messages.{TaskExchanges, TasksExchange, bottom_tasks, IsKnown, ReceivesNone, Lies}
 use Rattle.account.specs.Accounts.{Account}
 use Rattle.account.proofs.Sums.{sum_changed, at_same, at_other}
 use Rattle.account.specs.Going.{Goes}
-use Rattle.account.proofs.Working.{not_closing, not_leaving}
 use Rattle.account.proofs.LocalWork.{settled_goes}
-use Rattle.account.proofs.Exchanging.{settled_exchanges}
-use Rattle.account_blocks.proofs.Moving.{owners_with, thread_with, Moves}
+use Rattle.account.proofs.Moving as moved
+use Rattle.account.proofs.Moving.{GoesOn, first_goes_on, settles, settled_leaves_not, leaves_nothing, others_here}
+use Rattle.account_blocks.proofs.Moving.{after, Moves}
 
 -- one part of a sum gives to another one
 pub gives_to : (f g : ℕ → ℕ) (n i k a : ℕ) → i < n → k < n → nat_eq i k ≡ false → nat_eq k i ≡ false → g i + a ≤ f i
@@ -47,15 +45,8 @@ module _ (p : Program) (w : World) (a : Account p w) (sound : HeapFits p w.heap)
     (inside : i < w.count) (f : Frame) (stack : (w.threads i).frames ≡ f ∷ []) (b : ℕ) (spot : ℤ)
     (role : (w.threads i).role ≡ MemberOf b spot) (r : Run) (has_runs : a.owners.runs i ≡ r ∷ []) (step : Step)
     (rest : List Task) (is : f.tasks ≡ Stand step ∷ rest) (no_close : (c : ℕ) → step ≡ AtClose c → ⊥) where
-  -- who still receives a message did so before
-  pub still_receives : (j : ℕ) (label : Name) (x : Bool) → nat_eq j i ≡ x
-      → (ReceivesNone label (thread_with w i (settled (goes_on f rest)) x j).frames → ⊥)
-      → ReceivesNone label (w.threads j).frames → ⊥
-  still_receives j label false e some none = some none
-  still_receives j label true e some none =
-      some (settled_exchanges (λ m. Unit {0}) (λ m. same_name label m.label ≡ false) (goes_on f rest)
-      (subst (λ ts. TasksExchange (λ m. Unit {0}) (λ m. same_name label m.label ≡ false) ts) is
-      (subst (λ fs. ReceivesNone label fs) (ap (λ z. (w.threads z).frames) (naturals_same j i e) ∙ stack) none)).1)
+  abbrev behind : Frame
+  behind = settled (goes_on f rest)
 
   known : TasksExchange (IsKnown (a.owners.messages b)) (IsKnown (a.owners.messages b)) (Stand step ∷ rest)
   known = subst (λ ts. TasksExchange (IsKnown (a.owners.messages b)) (IsKnown (a.owners.messages b)) ts) is
@@ -72,45 +63,44 @@ module _ (p : Program) (w : World) (a : Account p w) (sound : HeapFits p w.heap)
     pub done : Goes p w.committed w.heap (settled (goes_on f rest)) s
     done = settled_goes p w.committed w.heap sound framed (goes_on f rest) s fits says most
 
-    -- the world after the step, with what others left and the mail as it is then
-    pub went : (left : ℕ → Amounts) (mail : ℕ → Mail)
-        → ((q : Resource) → sum_below (λ j. at_thread (owners_with a.owners i done.run left mail) j q) w.count
-        ≤ sum_below (λ j. at_thread a.owners j q) w.count)
-        → ((class : Name) (x : ℕ) → amounts_of s (OfLock class x) ≤ amounts_of r (OfLock class x))
-        → ((j : ℕ) → j < w.count → (class : Name) (x : ℕ)
-        → lies_at (owners_with a.owners i done.run left mail) j (OfLock class x) ≡ 0)
-        → ((j : ℕ) → nat_eq j i ≡ false → left j ≡ a.owners.left j)
-        → ((j : ℕ) → j < w.count → (c : ℕ) (position : ℤ) → (w.threads j).role ≡ MemberOf c position
-        → (label : Name) → (ReceivesNone label (thread_with w i (settled (goes_on f rest)) (nat_eq j i) j).frames → ⊥)
-        → (w.blocks c).sent label (position -ℤ pos (a.owners.messages c label).distance) ≡ true
-        → Lies p w.committed w.heap (a.owners.openings c) (w.blocks c)
-        (position -ℤ pos (a.owners.messages c label).distance) (a.owners.messages c label) label (mail j))
-        → Moves p w a i inside f stack b spot role r has_runs (settled (goes_on f rest)) done.run left mail
-    went left mail less locks no_locks stays there = record {
-      fits = done.fits;
-      still = let k = settled_still (goes_on f rest) in
-          record { class = k.class; method = k.method; this = k.this; begun = k.begun; old = k.old };
-      body = done.body ∙ body;
-      less = less;
-      locks = λ class x. let k = done.less (OfLock class x) in let l = locks class x in omega (arith, k, l);
-      no_locks = no_locks;
-      stays = stays;
-      was_open = λ c ts e. no_close c (first step (AtClose c) rest ts (sym is ∙ e));
-      is_open = λ c ts e. not_closing (standing_in p f.class done.run.body done.run.outer) done.run.inner done.run.scope
-          done.run.given done.run.stack c ts (subst (λ z. TasksSay (standing_in p f.class done.run.body done.run.outer)
-          done.run.inner done.run.scope done.run.given done.run.stack z) e says_then);
-      arrived = λ barrier span others e. absurd (not_leaving (standing_in p f.class done.run.body done.run.outer) done.run.inner
-          done.run.scope done.run.given done.run.stack barrier span others
-          (subst (λ z. TasksSay (standing_in p f.class done.run.body done.run.outer) done.run.inner done.run.scope
-          done.run.given done.run.stack z) e says_then));
-      exchanges = settled_exchanges (IsKnown (a.owners.messages b)) (IsKnown (a.owners.messages b)) (goes_on f rest) known.1;
-      there = there;
-    }
+    pub goes : GoesOn w.threads a.owners i (behind ∷ []) (done.run ∷ [])
+    goes = first_goes_on w.threads a.owners i f [] stack r [] has_runs behind done.run
+        (settles p w.committed w.heap f (goes_on f rest) r s
+        (record { class = refl; method = refl; this = refl; begun = refl; old = refl }) body done
+        (λ c ts e. no_close c (first step (AtClose c) rest ts (sym is ∙ e))) (λ S R h. (subst (TasksExchange S R) is h).1))
       where
         first : (x y : Step) (xs ys : List Task) → Stand x ∷ xs ≡ Stand y ∷ ys → x ≡ y
         first x y xs ys e = cc e
 
-        says_then : TasksSay (standing_in p f.class done.run.body done.run.outer) done.run.inner done.run.scope done.run.given
-            done.run.stack (settled (goes_on f rest)).tasks
-        says_then = subst (λ c. TasksSay (standing_in p c done.run.body done.run.outer) done.run.inner done.run.scope
-            done.run.given done.run.stack (settled (goes_on f rest)).tasks) (settled_still (goes_on f rest)).class done.says
+    -- who still receives a message did so before
+    pub still_receives : (j : ℕ) (label : Name) → (ReceivesNone label ((with_frames w i (behind ∷ [])).threads j).frames → ⊥)
+        → ReceivesNone label (w.threads j).frames → ⊥
+    still_receives = moved.still_receives p w.committed w.heap w.heap w.count w.threads a.owners i
+        (others_here w.heap w.count a.owners i) (behind ∷ []) (done.run ∷ []) goes
+
+    -- the step, with what others left and the mail as it is then
+    pub went : (left : ℕ → Amounts) (mail : ℕ → Mail)
+        → ((q : Resource) → sum_below (λ j. at_thread (after p w a i (behind ∷ []) (done.run ∷ []) left mail) j q) w.count
+        ≤ sum_below (λ j. at_thread a.owners j q) w.count)
+        → ((class : Name) (x : ℕ) → amounts_of s (OfLock class x) ≤ amounts_of r (OfLock class x))
+        → ((j : ℕ) → j < w.count → (class : Name) (x : ℕ)
+        → lies_at (after p w a i (behind ∷ []) (done.run ∷ []) left mail) j (OfLock class x) ≡ 0)
+        → ((j : ℕ) → nat_eq j i ≡ false → left j ≡ a.owners.left j)
+        → ((j : ℕ) → j < w.count → (c : ℕ) (position : ℤ) → (w.threads j).role ≡ MemberOf c position
+        → (label : Name) → (ReceivesNone label ((with_frames w i (behind ∷ [])).threads j).frames → ⊥)
+        → (w.blocks c).sent label (position -ℤ pos (a.owners.messages c label).distance) ≡ true
+        → Lies p w.committed w.heap (a.owners.openings c) (w.blocks c)
+        (position -ℤ pos (a.owners.messages c label).distance) (a.owners.messages c label) label (mail j))
+        → Moves p w a i (behind ∷ []) (done.run ∷ []) left mail
+    went left mail less locks no_locks stays there = record {
+      fits = (done.fits, tt);
+      goes = goes;
+      less = less;
+      locks = λ class x. let k = done.less (OfLock class x) in let l = locks class x in
+          let had = ap (λ z. all_of z (OfLock class x)) has_runs in omega (arith, k, l, had);
+      no_locks = no_locks;
+      stays = stays;
+      enough = leaves_nothing p w.committed w.heap (w.threads i).role w.blocks a.owners behind [] (done.run ∷ []) (left i)
+          (settled_leaves_not p w.committed w.heap (goes_on f rest) s done);
+      there = there;
+    }

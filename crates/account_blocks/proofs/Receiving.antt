@@ -39,7 +39,7 @@ use Rattle.account.specs.Scoped.{TasksSay}
 use Rattle.account.specs.Going.{Goes}
 use Rattle.account.proofs.Exchanging.{settled_exchanges}
 use Rattle.account.proofs.Sums.{sum_less}
-use Rattle.account_blocks.proofs.Moving.{thread_with, moved}
+use Rattle.account_blocks.proofs.Moving.{moved}
 use Rattle.account_blocks.proofs.Sites.{site_scene, site_fits, at_own, at_a_receive}
 use Rattle.account_blocks.proofs.Messages.{is_some_distance, Received, receives, receives_none}
 use Rattle.account_blocks.proofs.Members.{Stood, stood, here, scenes_agree, part_of_all}
@@ -154,7 +154,7 @@ module _ (p : Program) (w : World) (a : Account p w) (sound : HeapFits p w.heap)
         received.run received.fits received.says received.body enough
 
     got_letter : Account p (with_frames w i (behind ∷ []))
-    got_letter = moved p w a i inside f stack b spot role k.run k.has_runs behind on.run a.owners.left mail
+    got_letter = moved p w a i (behind ∷ []) (on.run ∷ []) a.owners.left mail inside
         (went p w a sound framed i inside f stack b spot role k.run k.has_runs (AtReceive m span) rest is (λ c e. cc e)
         received.run received.fits received.says received.body enough a.owners.left mail
         (λ q. sum_less _ _ w.count (λ j. less_at j q (nat_eq j i) refl))
@@ -162,7 +162,7 @@ module _ (p : Program) (w : World) (a : Account p w) (sound : HeapFits p w.heap)
         let z = a.locks.threads i inside class x in omega (arith, l, o, z))
         (λ j l class x. locks_at j l class x (nat_eq j i) refl)
         (λ j e. refl)
-        (λ j l c position is' label some was. there_at j l c position is' label (nat_eq j i) refl some was))
+        (λ j l c position is' label some was. there_at j l c position is' label some was (nat_eq j i) refl))
       where
         less_at : (j : ℕ) (q : Resource) (x : Bool) → nat_eq j i ≡ x
             → all_of (if x then on.run ∷ [] else a.owners.runs j) q
@@ -187,31 +187,38 @@ module _ (p : Program) (w : World) (a : Account p w) (sound : HeapFits p w.heap)
             let d = fewer m.label (a.owners.mail i) (OfLock class x) in omega (arith, same, z, d)
 
         there_at : (j : ℕ) → j < w.count → (c : ℕ) (position : ℤ) → (w.threads j).role ≡ MemberOf c position
-            → (label : Name) (x : Bool) → nat_eq j i ≡ x
-            → (ReceivesNone label (thread_with w i behind x j).frames → ⊥)
+            → (label : Name) → (ReceivesNone label ((with_frames w i (behind ∷ [])).threads j).frames → ⊥)
             → (w.blocks c).sent label (position -ℤ pos (a.owners.messages c label).distance) ≡ true
+            → (x : Bool) → nat_eq j i ≡ x
             → Lies p w.committed w.heap (a.owners.openings c) (w.blocks c)
             (position -ℤ pos (a.owners.messages c label).distance) (a.owners.messages c label) label
             (if x then without_letter m.label (a.owners.mail i) else a.owners.mail j)
-        there_at j l c position is' label false e some was = a.mail.there j l c position is' label some was
-        there_at j l c position is' label true e some was =
-            record {
-              part = old.part;
-              there = others_stay m.label label (apart (same_name label m.label) refl) (a.owners.mail i)
-                  ∙ (ap (λ z. letter label (a.owners.mail z)) (sym (naturals_same j i e)) ∙ old.there);
-              owns = old.owns;
-            }
+        there_at j l c position is' label some was = by
           where
             old : Lies p w.committed w.heap (a.owners.openings c) (w.blocks c)
                 (position -ℤ pos (a.owners.messages c label).distance) (a.owners.messages c label) label (a.owners.mail j)
             old = a.mail.there j l c position is' label
                 (still_receives p w a sound framed i inside f stack b spot role k.run k.has_runs (AtReceive m span) rest is
-                (λ c e. cc e) j label true e some) was
+                (λ c e. cc e) received.run received.fits received.says received.body enough j label some) was
 
-            apart : (t : Bool) → same_name label m.label ≡ t → t ≡ false
-            apart false h = refl
-            apart true h = absurd (some (settled_exchanges (λ n. Unit {0}) (λ n. same_name label n.label ≡ false)
-                (goes_on f rest) (subst (λ z. ReceivesNone z (goes_on f rest ∷ [])) (sym (names_same label m.label h)) once)))
+            apart : nat_eq j i ≡ true → (t : Bool) → same_name label m.label ≡ t → t ≡ false
+            apart e false h = refl
+            apart e true h = absurd (some
+                (subst (λ x. ReceivesNone label (if x then record { role = (w.threads i).role; frames = behind ∷ [] }
+                else w.threads j).frames) (sym e)
+                (settled_exchanges (λ n. Unit {0}) (λ n. same_name label n.label ≡ false)
+                (goes_on f rest) (subst (λ z. ReceivesNone z (goes_on f rest ∷ [])) (sym (names_same label m.label h)) once))))
+
+            by : (x : Bool) → nat_eq j i ≡ x → Lies p w.committed w.heap (a.owners.openings c) (w.blocks c)
+                (position -ℤ pos (a.owners.messages c label).distance) (a.owners.messages c label) label
+                (if x then without_letter m.label (a.owners.mail i) else a.owners.mail j)
+            by false e = old
+            by true e = record {
+              part = old.part;
+              there = others_stay m.label label (apart e (same_name label m.label) refl) (a.owners.mail i)
+                  ∙ (ap (λ z. letter label (a.owners.mail z)) (sym (naturals_same j i e)) ∙ old.there);
+              owns = old.owns;
+            }
 
   -- where nobody is at the distance, nothing is received
   module _ (none : int_le (w.blocks b).low sender ≡ false) where
@@ -230,13 +237,13 @@ module _ (p : Program) (w : World) (a : Account p w) (sound : HeapFits p w.heap)
         (record k.run { inner = false }) alone says refl no_more
 
     nobody : Account p (with_frames w i (behind ∷ []))
-    nobody = moved p w a i inside f stack b spot role k.run k.has_runs behind after.run a.owners.left a.owners.mail
+    nobody = moved p w a i (behind ∷ []) (after.run ∷ []) a.owners.left a.owners.mail inside
         (went p w a sound framed i inside f stack b spot role k.run k.has_runs (AtReceive m span) rest is (λ c e. cc e)
         (record k.run { inner = false }) alone says refl no_more a.owners.left a.owners.mail
         (λ q. sum_less _ _ w.count (λ j. less_at j q (nat_eq j i) refl)) (λ class x. omega arith) a.locks.threads
         (λ j e. refl) (λ j l c position is' label some was. a.mail.there j l c position is' label
         (still_receives p w a sound framed i inside f stack b spot role k.run k.has_runs (AtReceive m span) rest is
-        (λ c e. cc e) j label (nat_eq j i) refl some) was))
+        (λ c e. cc e) (record k.run { inner = false }) alone says refl no_more j label some) was))
       where
         less_at : (j : ℕ) (q : Resource) (x : Bool) → nat_eq j i ≡ x
             → all_of (if x then after.run ∷ [] else a.owners.runs j) q

@@ -33,7 +33,7 @@ use Rattle.account.specs.Accounts.{Account, Kept}
 use Rattle.account.specs.Scoped.{TasksSay}
 use Rattle.account.specs.Going.{Goes}
 use Rattle.account.proofs.Sums.{sum_less, at_same, at_other}
-use Rattle.account_blocks.proofs.Moving.{thread_with, Moves, moved}
+use Rattle.account_blocks.proofs.Moving.{Moves, moved}
 use Rattle.account_blocks.proofs.Sites.{site_scene, at_a_send}
 use Rattle.account_blocks.proofs.Messages.{is_some_distance, Sent, sends, sends_none}
 use Rattle.account_blocks.proofs.Members.{member, Opener, opener, Stood, stood, here, scenes_agree, part_of_all}
@@ -176,7 +176,7 @@ module _ (p : Program) (w : World) (a : Account p w) (sound : HeapFits p w.heap)
         })))
 
     with_letter : Account p (with_frames w i (behind ∷ []))
-    with_letter = moved p w a i inside f stack b spot role k.run k.has_runs behind on.run a.owners.left mail moves
+    with_letter = moved p w a i (behind ∷ []) (on.run ∷ []) a.owners.left mail inside moves
       where
         less_at : (q : Resource) (j : ℕ) → nat_eq j i ≡ false → nat_eq j to ≡ false
             → all_of (at_number i (on.run ∷ []) a.owners.runs j) q + (a.owners.left j q + carried_by (mail j) q)
@@ -216,7 +216,7 @@ module _ (p : Program) (w : World) (a : Account p w) (sound : HeapFits p w.heap)
             (sym (names_same label m.label h)) ((m.label, gift) ∷ a.owners.mail to)
             (ap (λ z. if z then Some gift else letter label (a.owners.mail to)) h)
 
-        moves : Moves p w a i inside f stack b spot role k.run k.has_runs behind on.run a.owners.left mail
+        moves : Moves p w a i (behind ∷ []) (on.run ∷ []) a.owners.left mail
         moves = went p w a sound framed i inside f stack b spot role k.run k.has_runs (AtSend m span) rest is (λ c e. cc e)
             gave.run gave.fits gave.says gave.body enough a.owners.left mail
             (λ q. gives_to (λ j. at_thread a.owners j q)
@@ -235,7 +235,7 @@ module _ (p : Program) (w : World) (a : Account p w) (sound : HeapFits p w.heap)
             (λ j e. refl)
             (λ j l c position is' label some was. there_at j l c position is' label
             (still_receives p w a sound framed i inside f stack b spot role k.run k.has_runs (AtSend m span) rest is
-            (λ c e. cc e) j label (nat_eq j i) refl some) was (nat_eq j to) refl (same_name label m.label) refl)
+            (λ c e. cc e) gave.run gave.fits gave.says gave.body enough j label some) was (nat_eq j to) refl (same_name label m.label) refl)
 
     -- with the record that it was sent
     sent_on : Account p (with_message (with_frames w i (behind ∷ [])) b m.label spot)
@@ -243,8 +243,8 @@ module _ (p : Program) (w : World) (a : Account p w) (sound : HeapFits p w.heap)
     sent_on = recorded p (with_frames w i (behind ∷ [])) b m.label spot with_letter
         (λ j l position is' some from. new_at j l position is' some from)
       where
-        new_at : (j : ℕ) → j < w.count → (position : ℤ) → (thread_with w i behind (nat_eq j i) j).role ≡ MemberOf b position
-            → (ReceivesNone m.label (thread_with w i behind (nat_eq j i) j).frames → ⊥)
+        new_at : (j : ℕ) → j < w.count → (position : ℤ) → ((with_frames w i (behind ∷ [])).threads j).role ≡ MemberOf b position
+            → (ReceivesNone m.label ((with_frames w i (behind ∷ [])).threads j).frames → ⊥)
             → position -ℤ pos (a.owners.messages b m.label).distance ≡ spot
             → Lies p w.committed w.heap (a.owners.openings b) (w.blocks b)
             (position -ℤ pos (a.owners.messages b m.label).distance) (a.owners.messages b m.label) m.label (mail j)
@@ -257,7 +257,7 @@ module _ (p : Program) (w : World) (a : Account p w) (sound : HeapFits p w.heap)
             other : MemberRuns p w.committed w.heap w.count (with_frames w i (behind ∷ [])).threads (with_letter.owners.left j)
                 (with_letter.owners.openings b) j b (w.blocks b) position (with_letter.owners.runs j)
             other = with_letter.blocks.members j l b position is'
-                (live_receiver m.label (thread_with w i behind (nat_eq j i) j).frames some)
+                (live_receiver m.label ((with_frames w i (behind ∷ [])).threads j).frames some)
 
             number_is : other.number ≡ number
             number_is =
@@ -287,13 +287,13 @@ module _ (p : Program) (w : World) (a : Account p w) (sound : HeapFits p w.heap)
         (record k.run { inner = false }) alone says refl no_more
 
     nobody : Account p (with_frames w i (behind ∷ []))
-    nobody = moved p w a i inside f stack b spot role k.run k.has_runs behind after.run a.owners.left a.owners.mail
+    nobody = moved p w a i (behind ∷ []) (after.run ∷ []) a.owners.left a.owners.mail inside
         (went p w a sound framed i inside f stack b spot role k.run k.has_runs (AtSend m span) rest is (λ c e. cc e)
         (record k.run { inner = false }) alone says refl no_more a.owners.left a.owners.mail
         (λ q. sum_less _ _ w.count (λ j. less_at j q (nat_eq j i) refl)) (λ class x. omega arith) a.locks.threads
         (λ j e. refl) (λ j l c position is' label some was. a.mail.there j l c position is' label
         (still_receives p w a sound framed i inside f stack b spot role k.run k.has_runs (AtSend m span) rest is
-        (λ c e. cc e) j label (nat_eq j i) refl some) was))
+        (λ c e. cc e) (record k.run { inner = false }) alone says refl no_more j label some) was))
       where
         less_at : (j : ℕ) (q : Resource) (x : Bool) → nat_eq j i ≡ x
             → all_of (if x then after.run ∷ [] else a.owners.runs j) q

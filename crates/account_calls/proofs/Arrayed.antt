@@ -14,9 +14,9 @@ use Rattle.pv_picks.specs.Formulas.Heaps.{Heap, with_array}
 use Rattle.pv_picks.specs.Machine.Labels.{Label}
 use Rattle.pv_picks.specs.Machine.Starts.{field_kind}
 use Rattle.pv_picks.specs.Judge.States.{Resource, State, amount_held, amount_of, holding, cell_among, is_among, plain_cell}
-use Rattle.pv_picks.specs.Machine.Tasks.{Task, Stand, AtNewArray, AtClose}
+use Rattle.pv_picks.specs.Machine.Tasks.{Task, Stand, AtNewArray}
 use Rattle.pv_picks.specs.Machine.Frames.{Frame, top, pops, pushes, settled, body_scene}
-use Rattle.pv_picks.specs.Machine.Worlds.{World, Mode, has_no_frame}
+use Rattle.pv_picks.specs.Machine.Worlds.{World, Mode}
 use Rattle.pv_picks.specs.Machine.Steps.{act_new_array, act_tasks, act}
 use Rattle.pv_picks.specs.Typing.Heaps.{IsTypedHeap}
 use Rattle.machine_laws.proofs.Typed.{step_typed}
@@ -38,16 +38,15 @@ use Rattle.account.specs.Frames as account
 use Rattle.account.specs.Frames.{standing_in, opened, AllTakeTurns, IsRunOf, AllWait, AreRunsOf, called_of, amounts_of, outer_of, all_of}
 use Rattle.account.specs.Going.{Goes}
 use Rattle.account.specs.Owners.{total}
-use Rattle.account.specs.Objects.{AtBottom}
-use Rattle.account.specs.Messages.{TasksExchange, bottom_tasks}
+use Rattle.account.specs.Messages.{TasksExchange}
 use Rattle.account.specs.Accounts.{Account, Kept}
 use Rattle.account.proofs.Sums.{runs_in_total}
-use Rattle.account.proofs.Exchanging.{settled_exchanges}
 use Rattle.account.proofs.Working.{frame_says}
-use Rattle.account.proofs.LocalWork.{settled_goes, called_settled, below_settled}
+use Rattle.account.proofs.LocalWork.{settled_goes, below_settled}
 use Rattle.account.proofs.Stepping.{by_run, never_at, says_at}
 use Rattle.account.proofs.Later.{Grown, trees_later, old_later, body_later, typed_later, stack_later, turns_later, below_later}
-use Rattle.account_calls.proofs.Moving.{bottom_moved, exchanges_moved, first_same, closes_not, leaves_not, accounted}
+use Rattle.account.proofs.Moving.{settles, settled_leaves_not, first_goes_on, leaves_nothing}
+use Rattle.account.proofs.Onward.{accounted}
 use Rattle.account_calls.proofs.Making.{makes, made_state, grown_made, keeps_made, new_typed, new_placed, not_placed, state_made}
 
 -- what is new in a new array
@@ -174,37 +173,28 @@ module _ (p : Program) (verified : IsVerifiedThroughout p) (w : World) (sound : 
           below_settled p w.committed (Later size) (sound_later element size) (framed_later element size) Behind run go below rs
               (below_later p w.committed w.heap (Later size) grown (called_of f r) below rs (kept (all_of rs)) fits.1),
         );
-        bottom = λ P by b. bottom_moved P f (settled Behind) r go.run
-            (by f (settled Behind) r go.run (called_settled p w.committed (Later size) (sound_later element size)
-            (framed_later element size) Behind run go))
-            below rs
-            (subst (λ fs. AtBottom P fs (r ∷ rs)) stands_at (subst (λ ys. AtBottom P (w.threads i).frames ys) has b));
-        messages = λ S R b. exchanges_moved S R f (settled Behind) below
-            (λ h. settled_exchanges S R Behind (subst (λ ts. TasksExchange S R ts) is h).1)
-            (subst (λ fs. TasksExchange S R (bottom_tasks fs)) stands_at b);
-        live = ap has_no_frame stands_at;
-        ends = λ e. absurd (cc e);
-        stood = λ h hs b ts e at.
-            let same : f.tasks ≡ Stand (AtClose b) ∷ ts = ap (λ z. z.tasks) (first_same f h below hs (sym stands_at ∙ e)) ∙ at in
-            absurd (cc (is, same));
-        closes = λ h hs b ts e at. closes_not (standing_in p (settled Behind).class go.run.body go.run.outer) go.run.inner
-            go.run.scope go.run.given go.run.stack (settled Behind) h below hs b ts go.says e at;
-        leaves = λ h hs barrier place ts e at. leaves_not (standing_in p (settled Behind).class go.run.body go.run.outer)
-            go.run.inner go.run.scope go.run.given go.run.stack (settled Behind) h below hs barrier place ts go.says e at;
+        goes = first_goes_on w.threads a.owners i f below stands_at r rs has (settled Behind) go.run
+            (settles p w.committed (Later size) f Behind r run
+            (record { class = refl; method = refl; this = refl; begun = refl; old = refl }) refl go (λ b ts at. absurd (cc (is, at)))
+            (λ S R h. (subst (λ ts. TasksExchange S R ts) is h).1));
+        leaves = leaves_nothing p w.committed (Later size) (w.threads i).role w.blocks a.owners (settled Behind) below (go.run ∷ rs)
+            (a.owners.left i) (settled_leaves_not p w.committed (Later size) Behind run go);
         fresh = new_amounts type (suc w.heap.count) size;
         less = λ q. let l = go.less q in let m = made_amount r.state type (suc w.heap.count) size q in
             let same = ap (λ ys. all_of ys q) has in omega (arith, l, m, same);
-        new = λ q more.
-            let among = passes_test (is_among type (suc w.heap.count) (pos 0) (pos size) q) more in (
-              none_there element size q among,
-              at_most (is_among type (suc w.heap.count) (pos 0) (pos size) q),
-              new_placed p w.committed w.heap sound typed type element size q among,
-            );
-        new_idle = λ c x more. absurd (omega (arith, more));
-        new_running = λ c x more. absurd (omega (arith, more));
-        new_uncommitted = λ c x more. absurd (omega (arith, more));
-        new_lock = λ c x. refl;
-        new_object = λ c x above at. absurd (none-some c (sym (sound.beyond x above).class ∙ at));
+        new = record {
+          none = λ q more.
+              let among = passes_test (is_among type (suc w.heap.count) (pos 0) (pos size) q) more in (
+                none_there element size q among,
+                at_most (is_among type (suc w.heap.count) (pos 0) (pos size) q),
+                new_placed p w.committed w.heap sound typed type element size q among,
+              );
+          idle = λ c x more. absurd (omega (arith, more));
+          running = λ c x more. absurd (omega (arith, more));
+          uncommitted = λ c x more. absurd (omega (arith, more));
+          lock = λ c x. refl;
+          object = λ c x above below at. absurd (none-some c (sym (sound.beyond x above).class ∙ at));
+        };
         grown = grown;
         null = λ c at. at;
         keeps = λ B less. kept B;

@@ -1,7 +1,6 @@
 -- The label of a call: what the precondition asks for goes to the new frame, and the caller waits.
 use Rattle.std.proofs.Common.{◌≡◌, ℕ, suc, ◌+◌, ◌≤◌, ◌<◌, Bool, true, false, if◌then◌else◌, Some, List, [], ◌∷◌, refl, ap, sym, subst, ◌∙◌, arith}
 use Rattle.std.specs.Prelude.{nat_eq, drop}
-use Rattle.std.proofs.lemmas.Option.{none-some}
 use Rattle.pv_base.specs.declared.Name.{Name}
 use Rattle.pv_base.specs.declared.Span.{Span}
 use Rattle.pv_ast.specs.declared.PvType.{PvType}
@@ -45,6 +44,7 @@ use Rattle.account.specs.Running.{ran}
 use Rattle.account.specs.Scoped.{TasksSay, stands}
 use Rattle.account.specs.Frames as account
 use Rattle.account.specs.Frames.{standing_in, opened, AllTakeTurns, IsRunOf, WaitsFor, AllWait, AreRunsOf, Called, called_of, amounts_of, all_of}
+use Rattle.account.specs.Owners.{nothing}
 use Rattle.account.specs.Objects.{AtBottom}
 use Rattle.account.specs.Messages.{TasksExchange, bottom_tasks}
 use Rattle.account.specs.Accounts.{Account, Kept}
@@ -55,7 +55,9 @@ use Rattle.account.proofs.Working.{SaysOn}
 use Rattle.account.proofs.Later.{grown_same, keeps_same}
 use Rattle.account_calls.specs.Beginnings.{call_of}
 use Rattle.account_calls.proofs.Beginning.{before_place, Begins, begins}
-use Rattle.account_calls.proofs.Moving.{bottom_moved, exchanges_moved, first_same, closes_not, leaves_not, Moves, accounted}
+use Rattle.account.proofs.Bottom.{bottom_exchanges, stays_at_bottom}
+use Rattle.account.proofs.Moving.{first_same, closes_not, leaves_not, leaves_nothing}
+use Rattle.account.proofs.Onward.{nothing_new, Moves, accounted}
 
 -- the frame that waits for the call
 abbrev pub waiting_frame : Frame → Name → Method → ℕ → List Task → Frame
@@ -192,38 +194,34 @@ module _ (p : Program) (verified : IsVerifiedThroughout p) (w : World) (sound : 
   call_moves r rs has fits m g = record {
     runs = g.callee ∷ g.caller ∷ rs;
     fits = (g.fits, (g.waits, subst (λ c. AllWait p w.committed w.heap c below rs) (sym g.stays) fits.1));
-    bottom = λ P by b. bottom_moved P f (waiting_frame f class m count rest) r g.caller
-        (by f (waiting_frame f class m count rest) r g.caller g.stays) below rs
-        (subst (λ fs. AtBottom P fs (r ∷ rs)) stands_at (subst (λ ys. AtBottom P (w.threads i).frames ys) has b));
-    messages = λ S R b. exchanges_moved S R f (waiting_frame f class m count rest) below
-        (λ h. (tt, (subst (λ ts. TasksExchange S R ts) is h).1))
-        (subst (λ fs. TasksExchange S R (bottom_tasks fs)) stands_at b);
-    live = ap has_no_frame stands_at;
-    ends = λ e. absurd (cc e);
-    stood = λ h hs b ts e at. apart_call b ts h hs e at;
-    closes = λ h hs b ts e at. closes_not
-        (standing_in p (entered w.heap class m (object_under count f.values) (topmost count f.values)).class g.callee.body
-        g.callee.outer) g.callee.inner g.callee.scope g.callee.given g.callee.stack
-        (entered w.heap class m (object_under count f.values) (topmost count f.values)) h
-        (waiting_frame f class m count rest ∷ below) hs b ts g.says e at;
-    leaves = λ h hs barrier place ts e at. leaves_not
-        (standing_in p (entered w.heap class m (object_under count f.values) (topmost count f.values)).class g.callee.body
-        g.callee.outer) g.callee.inner g.callee.scope g.callee.given g.callee.stack
-        (entered w.heap class m (object_under count f.values) (topmost count f.values)) h
-        (waiting_frame f class m count rest ∷ below) hs barrier place ts g.says e at;
-    fresh = λ q. 0;
+    goes = record {
+      bottom = λ P stays b. stays_at_bottom f (waiting_frame f class m count rest) r g.caller
+          (record { class = refl; method = refl; this = refl; begun = refl; old = refl }) (ap (λ c. c.body) g.stays) P stays below rs
+          (subst (λ fs. AtBottom P fs (r ∷ rs)) stands_at (subst (λ ys. AtBottom P (w.threads i).frames ys) has b));
+      messages = λ S R b. bottom_exchanges S R f (waiting_frame f class m count rest)
+          (λ h. (tt, (subst (λ ts. TasksExchange S R ts) is h).1)) below
+          (subst (λ fs. TasksExchange S R (bottom_tasks fs)) stands_at b);
+      live = ap has_no_frame stands_at;
+      stood = λ h hs b ts e at. apart_call b ts h hs e at;
+      closes = λ h hs b ts e at. closes_not (standing_in p called.class g.callee.body g.callee.outer) g.callee.inner
+          g.callee.scope g.callee.given g.callee.stack called g.says b ts
+          (ap (λ z. z.tasks) (first_same called h (waiting_frame f class m count rest ∷ below) hs e) ∙ at);
+    };
+    leaves = leaves_nothing p w.committed w.heap (w.threads i).role w.blocks a.owners called
+        (waiting_frame f class m count rest ∷ below) (g.callee ∷ g.caller ∷ rs) (a.owners.left i)
+        (leaves_not (standing_in p called.class g.callee.body g.callee.outer) g.callee.inner g.callee.scope g.callee.given
+        g.callee.stack called g.says);
+    fresh = nothing;
     less = λ q. let l = g.less q in let same = ap (λ ys. all_of ys q) has in omega (arith, l, same);
-    new = λ q more. absurd (omega (arith, more));
-    new_idle = λ c x more. absurd (omega (arith, more));
-    new_running = λ c x more. absurd (omega (arith, more));
-    new_uncommitted = λ c x more. absurd (omega (arith, more));
-    new_lock = λ c x. refl;
-    new_object = λ c x above at. absurd (none-some c (sym (sound.beyond x above).class ∙ at));
+    new = nothing_new p w a w.heap refl;
     grown = grown_same w.heap;
     null = λ c at. at;
     keeps = λ B less. keeps_same B w.heap;
   }
     where
+      called : Frame
+      called = entered w.heap class m (object_under count f.values) (topmost count f.values)
+
       apart_call : (b : ℕ) (ts : List Task) (h : Frame) (hs : List Frame) → (w.threads i).frames ≡ h ∷ hs
           → h.tasks ≡ Stand (AtClose b) ∷ ts → ⊥
       apart_call b ts h hs e at =

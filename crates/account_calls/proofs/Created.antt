@@ -12,9 +12,9 @@ use Rattle.pv_picks.specs.Plain.Members.{fields_of}
 use Rattle.pv_picks.specs.Formulas.Heaps.{Heap, with_object}
 use Rattle.pv_picks.specs.Machine.Starts.{field_kind}
 use Rattle.pv_picks.specs.Judge.States.{Resource, State, amount_of}
-use Rattle.pv_picks.specs.Machine.Tasks.{Task, Stand, AtNewObject, AtClose}
+use Rattle.pv_picks.specs.Machine.Tasks.{Task, Stand, AtNewObject}
 use Rattle.pv_picks.specs.Machine.Frames.{Frame, pushes, settled, body_scene}
-use Rattle.pv_picks.specs.Machine.Worlds.{World, Mode, ThreadState, has_no_frame}
+use Rattle.pv_picks.specs.Machine.Worlds.{World, Mode, ThreadState}
 use Rattle.pv_picks.specs.Machine.Steps.{first_fields, act_new_object, act_tasks, act}
 use Rattle.pv_picks.specs.Typing.Heaps.{IsTypedHeap}
 use Rattle.pv_picks.proofs.Sames.{back, naturals_same}
@@ -32,16 +32,15 @@ use Rattle.account.specs.Frames as account
 use Rattle.account.specs.Frames.{standing_in, opened, AllTakeTurns, OldIs, IsRunOf, AreRunsOf, called_of, amounts_of, outer_of, all_of}
 use Rattle.account.specs.Going.{Goes}
 use Rattle.account.specs.Owners.{total}
-use Rattle.account.specs.Objects.{AtBottom}
-use Rattle.account.specs.Messages.{TasksExchange, bottom_tasks}
+use Rattle.account.specs.Messages.{TasksExchange}
 use Rattle.account.specs.Accounts.{Account, Kept}
 use Rattle.account.proofs.Sums.{runs_in_total}
-use Rattle.account.proofs.Exchanging.{settled_exchanges}
 use Rattle.account.proofs.Working.{frame_says}
-use Rattle.account.proofs.LocalWork.{settled_goes, called_settled, below_settled}
+use Rattle.account.proofs.LocalWork.{settled_goes, below_settled}
 use Rattle.account.proofs.Stepping.{by_run, never_at, says_at}
 use Rattle.account.proofs.Later.{Grown, trees_later, old_later, body_later, typed_later, stack_later, turns_later, below_later}
-use Rattle.account_calls.proofs.Moving.{bottom_moved, exchanges_moved, first_same, closes_not, leaves_not, accounted}
+use Rattle.account.proofs.Moving.{settles, settled_leaves_not, first_goes_on, leaves_nothing}
+use Rattle.account.proofs.Onward.{accounted}
 use Rattle.account_calls.proofs.Creating.{have_defaults, is_given, given_amounts, more_fits, grown_created, keeps_created, new_class, given_placed, not_placed, Got, Creates, creates}
 
 module _ (p : Program) (verified : IsVerifiedThroughout p) (w : World) (sound : HeapFits p w.heap)
@@ -147,38 +146,30 @@ module _ (p : Program) (verified : IsVerifiedThroughout p) (w : World) (sound : 
           below_settled p w.committed Later sound_later framed_later Behind (run_with r s) go below rs
               (below_later p w.committed w.heap Later grown (called_of f r) below rs (kept (all_of rs)) fits.1),
         );
-        bottom = λ P by b. bottom_moved P f (settled Behind) r go.run
-            (by f (settled Behind) r go.run
-            (called_settled p w.committed Later sound_later framed_later Behind (run_with r s) go)) below rs
-            (subst (λ fs. AtBottom P fs (r ∷ rs)) stands_at (subst (λ ys. AtBottom P (w.threads i).frames ys) has b));
-        messages = λ S R b. exchanges_moved S R f (settled Behind) below
-            (λ h. settled_exchanges S R Behind (subst (λ ts. TasksExchange S R ts) is h).1)
-            (subst (λ fs. TasksExchange S R (bottom_tasks fs)) stands_at b);
-        live = ap has_no_frame stands_at;
-        ends = λ e. absurd (cc e);
-        stood = λ h hs b ts e at.
-            let same : f.tasks ≡ Stand (AtClose b) ∷ ts = ap (λ z. z.tasks) (first_same f h below hs (sym stands_at ∙ e)) ∙ at in
-            absurd (cc (is, same));
-        closes = λ h hs b ts e at. closes_not (standing_in p (settled Behind).class go.run.body go.run.outer) go.run.inner
-            go.run.scope go.run.given go.run.stack (settled Behind) h below hs b ts go.says e at;
-        leaves = λ h hs barrier place ts e at. leaves_not (standing_in p (settled Behind).class go.run.body go.run.outer)
-            go.run.inner go.run.scope go.run.given go.run.stack (settled Behind) h below hs barrier place ts go.says e at;
+        goes = first_goes_on w.threads a.owners i f below stands_at r rs has (settled Behind) go.run
+            (settles p w.committed Later f Behind r (run_with r s)
+            (record { class = refl; method = refl; this = refl; begun = refl; old = refl }) refl go (λ b ts at. absurd (cc (is, at)))
+            (λ S R h. (subst (λ ts. TasksExchange S R ts) is h).1));
+        leaves = leaves_nothing p w.committed Later (w.threads i).role w.blocks a.owners (settled Behind) below (go.run ∷ rs)
+            (a.owners.left i) (settled_leaves_not p w.committed Later Behind (run_with r s) go);
         fresh = given_amounts (first_fields p class) class (suc w.heap.count);
         less = λ q. let l = go.less q in let m = got.less q in let same = ap (λ ys. all_of ys q) has in
             omega (arith, l, m, same);
-        new = λ q more.
-            let own = passes_test (is_given (first_fields p class) class (suc w.heap.count) q) more in (
-              none_there q own,
-              at_most (is_given (first_fields p class) class (suc w.heap.count) q),
-              given_placed p w.committed w.heap sound typed class q own,
-            );
-        new_idle = of_number (λ x. w.state x ≡ ThreadState.Idle) new_number.state;
-        new_running = λ c x more. absurd (omega (arith, more));
-        new_uncommitted = of_number (λ x. w.committed x ≡ false) new_number.committed;
-        new_lock = λ c x. refl;
-        new_object = λ c x above at.
-            let new = fresh x above in
-            (λ e. let idle = new.state in absurd (cc (idle, e)), λ e. let none = new.committed in absurd (cc (none, e)));
+        new = record {
+          none = λ q more.
+              let own = passes_test (is_given (first_fields p class) class (suc w.heap.count) q) more in (
+                none_there q own,
+                at_most (is_given (first_fields p class) class (suc w.heap.count) q),
+                given_placed p w.committed w.heap sound typed class q own,
+              );
+          idle = of_number (λ x. w.state x ≡ ThreadState.Idle) new_number.state;
+          running = λ c x more. absurd (omega (arith, more));
+          uncommitted = of_number (λ x. w.committed x ≡ false) new_number.committed;
+          lock = λ c x. refl;
+          object = λ c x above below at.
+              let new = fresh x above in
+              (λ e. let idle = new.state in absurd (cc (idle, e)), λ e. let none = new.committed in absurd (cc (none, e)));
+        };
         grown = grown;
         null = λ c at. null_class c at (nat_eq 0 (suc w.heap.count)) refl;
         keeps = λ B less. kept B;

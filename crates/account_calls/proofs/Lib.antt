@@ -1,5 +1,4 @@
 pub mod Beginning
-pub mod Moving
 pub mod Calling
 pub mod Returning
 pub mod Returned

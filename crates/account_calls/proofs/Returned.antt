@@ -1,7 +1,6 @@
 -- A return keeps the account: of a call, and of the method in which a run began.
 use Rattle.std.proofs.Common.{◌≡◌, ℕ, suc, ◌≤◌, ◌<◌, List, [], ◌∷◌, refl, ap, sym, subst, ◌∙◌, arith}
 use Rattle.std.specs.Prelude.{drop}
-use Rattle.std.proofs.lemmas.Option.{none-some}
 use Rattle.pv_fraction.specs.Amounts.{whole}
 use Rattle.pv_picks.specs.declared.check.Check.TheVariants as check
 use Rattle.pv_picks.specs.Plain.Core.{Message, Program}
@@ -13,18 +12,22 @@ use Rattle.pv_picks.specs.Machine.Worlds.{World, Role, Entry, RunOf, MemberOf, M
 use Rattle.pv_picks.specs.Machine.Steps.{Result, needs_met, returned, ended, act_end, act_tasks, act}
 use Rattle.account_formulas.specs.Growing.{HeapFits}
 use Rattle.account_formulas.specs.Gaining.{PredicatesFit}
+use Rattle.account_formulas.proofs.Still.{settled_still}
 use Rattle.account.specs.Frames as account
 use Rattle.account.specs.Frames.{standing_in, IsBodyOf, IsRunOf, WaitsFor, AllWait, AreRunsOf, called_of, amounts_of, all_of}
+use Rattle.account.specs.Owners.{nothing}
 use Rattle.account.specs.Objects.{AtBottom, RoleFits}
 use Rattle.account.specs.Messages.{TasksExchange, bottom_tasks}
 use Rattle.account.specs.Accounts.{Account, Kept}
 use Rattle.account.proofs.Sums.{runs_in_total}
 use Rattle.account.proofs.Exchanging.{settled_exchanges}
 use Rattle.account.specs.Going.{Goes}
-use Rattle.account.proofs.LocalWork.{settled_goes, called_settled, below_settled}
+use Rattle.account.proofs.LocalWork.{settled_goes, below_settled}
 use Rattle.account.proofs.Stepping.{by_run}
 use Rattle.account.proofs.Later.{grown_same, keeps_same}
-use Rattle.account_calls.proofs.Moving.{bottom_moved, exchanges_moved, first_same, closes_not, leaves_not, Moves, accounted}
+use Rattle.account.proofs.Bottom.{bottom_exchanges, stays_at_bottom}
+use Rattle.account.proofs.Moving.{first_same, ends, closes_not, settled_leaves_not, leaves_nothing}
+use Rattle.account.proofs.Onward.{nothing_new, Moves, accounted}
 use Rattle.account.proofs.Ended.{end_met}
 use Rattle.account_calls.proofs.Returning.{ReturnGoes, returns_go}
 
@@ -58,28 +61,26 @@ module _ (p : Program) (w : World) (sound : HeapFits p w.heap) (framed : Predica
         below_settled p w.committed w.heap sound framed (Onto rest) d.run go others rs
             (subst (λ c. AllWait p w.committed w.heap c others rs) (sym d.stays) fits.1.1),
       );
-      bottom = λ P by b. bottom_moved P g (settled (Onto rest)) s go.run
-          (by g (settled (Onto rest)) s go.run (called_settled p w.committed w.heap sound framed (Onto rest) d.run go ∙ d.stays))
-          others rs
-          (subst (λ fs. AtBottom P fs (r ∷ s ∷ rs)) stands_at (subst (λ ys. AtBottom P (w.threads i).frames ys) has b));
-      messages = λ S R b. exchanges_moved S R g (settled (Onto rest)) others
-          (λ h. settled_exchanges S R (Onto rest) (subst (λ ts. TasksExchange S R ts) behind (later S R g.tasks h)))
-          (subst (λ fs. TasksExchange S R (bottom_tasks fs)) stands_at b);
-      live = ap has_no_frame stands_at;
-      ends = λ e. absurd (cc e);
-      stood = λ h hs b ts e at. no_task_waits f h (g ∷ others) hs b ts over (sym stands_at ∙ e) at;
-      closes = λ h hs b ts e at. closes_not (standing_in p (settled (Onto rest)).class go.run.body go.run.outer) go.run.inner
-          go.run.scope go.run.given go.run.stack (settled (Onto rest)) h others hs b ts go.says e at;
-      leaves = λ h hs barrier place ts e at. leaves_not (standing_in p (settled (Onto rest)).class go.run.body go.run.outer)
-          go.run.inner go.run.scope go.run.given go.run.stack (settled (Onto rest)) h others hs barrier place ts go.says e at;
-      fresh = λ q. 0;
+      goes = record {
+        bottom = λ P stays b. stays_at_bottom g (settled (Onto rest)) s go.run
+            (let k = settled_still (Onto rest) in
+            record { class = k.class; method = k.method; this = k.this; begun = k.begun; old = k.old })
+            (go.body ∙ ap (λ c. c.body) d.stays) P stays others rs
+            (subst (λ fs. AtBottom P fs (r ∷ s ∷ rs)) stands_at (subst (λ ys. AtBottom P (w.threads i).frames ys) has b));
+        messages = λ S R b. bottom_exchanges S R g (settled (Onto rest))
+            (λ h. settled_exchanges S R (Onto rest) (subst (λ ts. TasksExchange S R ts) behind (later S R g.tasks h))) others
+            (subst (λ fs. TasksExchange S R (bottom_tasks fs)) stands_at b);
+        live = ap has_no_frame stands_at;
+        stood = λ h hs b ts e at. no_task_waits f h (g ∷ others) hs b ts over (sym stands_at ∙ e) at;
+        closes = λ h hs b ts e at. closes_not (standing_in p (settled (Onto rest)).class go.run.body go.run.outer) go.run.inner
+            go.run.scope go.run.given go.run.stack (settled (Onto rest)) go.says b ts
+            (ap (λ z. z.tasks) (first_same (settled (Onto rest)) h others hs e) ∙ at);
+      };
+      leaves = leaves_nothing p w.committed w.heap (w.threads i).role w.blocks a.owners (settled (Onto rest)) others (go.run ∷ rs)
+          (a.owners.left i) (settled_leaves_not p w.committed w.heap (Onto rest) d.run go);
+      fresh = nothing;
       less = λ q. let l = go.less q in let k = d.less q in let same = ap (λ ys. all_of ys q) has in omega (arith, l, k, same);
-      new = λ q more. absurd (omega (arith, more));
-      new_idle = λ c x more. absurd (omega (arith, more));
-      new_running = λ c x more. absurd (omega (arith, more));
-      new_uncommitted = λ c x more. absurd (omega (arith, more));
-      new_lock = λ c x. refl;
-      new_object = λ c x above at. absurd (none-some c (sym (sound.beyond x above).class ∙ at));
+      new = nothing_new p w a w.heap refl;
       grown = grown_same w.heap;
       null = λ c at. at;
       keeps = λ B less. keeps_same B w.heap;
@@ -128,21 +129,14 @@ module _ (p : Program) (w : World) (sound : HeapFits p w.heap) (framed : Predica
     entry_moves = record {
       runs = [];
       fits = tt;
-      bottom = λ P by b. tt;
-      messages = λ S R b. tt;
-      live = ap has_no_frame stands_at;
-      ends = λ e b position role. absurd (cc (entry, role));
-      stood = λ h hs b ts e at. no_task_waits f h [] hs b ts over (sym stands_at ∙ e) at;
-      closes = λ h hs b ts e at. absurd (cc e);
-      leaves = λ h hs barrier place ts e at. absurd (cc e);
-      fresh = λ q. 0;
+      goes = ends w.threads a.owners i f stands_at over;
+      leaves = record {
+        ended = λ b position role none. absurd (cc (entry, role));
+        arrived = λ b position role. absurd (cc (entry, role));
+      };
+      fresh = nothing;
       less = λ q. omega arith;
-      new = λ q more. absurd (omega (arith, more));
-      new_idle = λ c x more. absurd (omega (arith, more));
-      new_running = λ c x more. absurd (omega (arith, more));
-      new_uncommitted = λ c x more. absurd (omega (arith, more));
-      new_lock = λ c x. refl;
-      new_object = λ c x above at. absurd (none-some c (sym (sound.beyond x above).class ∙ at));
+      new = nothing_new p w a w.heap refl;
       grown = grown_same w.heap;
       null = λ c at. at;
       keeps = λ B less. keeps_same B w.heap;

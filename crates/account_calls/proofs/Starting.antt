@@ -48,7 +48,7 @@ use Rattle.account.specs.Owners.{Owners, sum_below, total}
 use Rattle.account.specs.Objects.{RoleFits}
 use Rattle.account.specs.Accounts.{Account}
 use Rattle.account_calls.proofs.Beginning.{Begins, begins}
-use Rattle.account_calls.proofs.Moving.{closes_not}
+use Rattle.account.proofs.Moving.{first_same, closes_not}
 
 arguments_typed : (things : Things) (ps : List Parameter) (vs : List Value) → AreArguments things ps vs
     → AreTyped (heap_of things) (types_of ps) vs
@@ -296,5 +296,6 @@ module _ (p : Program) (verified : IsVerifiedThroughout p) (s : Start) (starts :
           → ((first_world s).threads j).frames ≡ f ∷ below → f.tasks ≡ Stand (AtClose b) ∷ rest → ⊥
       stands_at_none j f below b rest = each (λ t rs. t.frames ≡ f ∷ below → f.tasks ≡ Stand (AtClose b) ∷ rest → ⊥)
           (λ e at. closes_not (standing_in p (frame_of_start s).class begun.run.body begun.run.outer) begun.run.inner
-          begun.run.scope begun.run.given begun.run.stack (frame_of_start s) f [] below b rest begun.says e at)
+          begun.run.scope begun.run.given begun.run.stack (frame_of_start s) begun.says b rest
+          (ap (λ z. z.tasks) (first_same (frame_of_start s) f [] below e) ∙ at))
           (λ e at. absurd (cc e)) j

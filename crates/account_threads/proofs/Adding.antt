@@ -18,7 +18,7 @@ use Rattle.account.specs.Objects.{AtBottom, RoleFits}
 use Rattle.account.specs.Blocks.{scene_at, WaitsForMembers, IsMember, HasArrived, MemberRuns}
 use Rattle.account.specs.Messages.{TasksExchange, bottom_tasks, IsKnown, ReceivesNone, Lies}
 use Rattle.account.proofs.Sums.{below_other, sum_same}
-use Rattle.account_threads.proofs.Families.{Families}
+use Rattle.account.proofs.Moving.{Families}
 
 pub other_number : (j n : ℕ) → j < n → nat_eq j n ≡ false
 other_number j n l = go (nat_eq j n) refl

@@ -33,10 +33,10 @@ use Rattle.account_threads.specs.Parts.{InvariantsFit}
 use Rattle.account.proofs.Locks.{locks_less}
 use Rattle.account_threads.proofs.Acting.{object_on, allowed, acts_on_class}
 use Rattle.account_threads.proofs.Committing.{CommitGoes, commits_go}
-use Rattle.account_threads.proofs.Moving.{owners_with}
-use Rattle.account_threads.proofs.Going.{onto, runs_go}
+use Rattle.account_threads.proofs.Going.{families_go}
 use Rattle.account_threads.proofs.Flagged.{goes_on_flagged, runs_flagged, families_flagged}
-use Rattle.account_threads.proofs.Families.{Families, families_of, families_move, own_most, object_is, object_below, waits_kept}
+use Rattle.account.proofs.Moving.{Families, families_of, owners_with}
+use Rattle.account_threads.proofs.Families.{own_most, object_is, object_below, waits_kept}
 
 -- one object more is committed
 pub rises : (flags : ℕ → Bool) (object x : ℕ) → flags x ≡ true → at_number object true flags x ≡ true
@@ -169,10 +169,8 @@ module _ (p : Program) (w : World) (a : Account p w) (sound : HeapFits p w.heap)
       (at_number i (record { role = (w.threads i).role; frames = settled (pops 1 f rest) ∷ below }) w.threads) w.block_count
       w.blocks w.state after
   families =
-      families_move p flags w.heap w.count w.threads w.block_count w.blocks w.state a.owners i f below stack r rs has_runs
-      (settled (pops 1 f rest)) done.run
-      (onto p flags w.heap sound framed f r fits.0 Commit class span rest is g.run g.past g.body done) inside
-      (runs_go p flags w.heap sound framed f r fits.0 Commit class span rest is g.run g.past g.body done below rs fits.1)
+      families_go p flags w.heap sound framed f r fits.0 Commit class span rest is g.run g.past g.body done w.count w.threads
+      w.block_count w.blocks w.state a.owners i below stack rs has_runs fits.1
       a.owners.promise (at_number (object_on f) (without_locks g.part) a.owners.guard)
       (families_flagged p w.committed flags raises w.heap w.count w.threads w.block_count w.blocks w.state a.owners
       (families_of p w a))

@@ -41,9 +41,9 @@ use Rattle.account.proofs.Ended.{past_fits, end_scene, end_gives, end_met}
 use Rattle.account_threads.specs.Parts.{RunsFit}
 use Rattle.account.proofs.Locks.{locks_less, goes_on_locked}
 use Rattle.account_threads.proofs.OfObject.{object_scene}
-use Rattle.account_threads.proofs.Moving.{owners_with}
+use Rattle.account.proofs.Moving.{Families, families_of, owners_with}
 use Rattle.account_threads.proofs.Ending.{no_role, families_end}
-use Rattle.account_threads.proofs.Families.{Families, families_of, role_restated, own_most, object_below, waits_kept}
+use Rattle.account_threads.proofs.Families.{role_restated, own_most, object_below, waits_kept}
 
 same_number_of : (i j : ℕ) → ThreadState.Running i ≡ ThreadState.Running j → i ≡ j
 same_number_of i j e = cc e
@@ -161,7 +161,7 @@ module _ (p : Program) (w : World) (a : Account p w) (i : ℕ) (inside : i < w.c
 
   families : Families p w.committed w.heap w.count (at_number i (record { role = (w.threads i).role; frames = [] }) w.threads)
       w.block_count w.blocks w.state after
-  families = families_end p w.committed w.heap w.count w.threads w.block_count w.blocks w.state a.owners i inside f stack tasks
+  families = families_end p w.committed w.heap w.count w.threads w.block_count w.blocks w.state a.owners i f stack tasks
       alone (at_number x (without_locks part) a.owners.promise) a.owners.guard (families_of p w a)
 
   roles : (j : ℕ) → j < w.count → RoleFits p w.committed w.heap state j

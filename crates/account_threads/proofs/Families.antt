@@ -1,5 +1,5 @@
--- An account taken apart: what is said of threads, roles, blocks and mail, beside what is said of sums, locks and objects.
-use Rattle.std.proofs.Common.{◌≡◌, ℕ, zero, suc, ◌+◌, ◌≤◌, ◌<◌, Bool, true, false, Some, List, [], ◌∷◌, refl, ap, sym, subst, ◌∙◌, arith}
+-- What a thread of an accounted world has, of objects, and of the states of threads.
+use Rattle.std.proofs.Common.{◌≡◌, ℕ, zero, suc, ◌+◌, ◌≤◌, ◌<◌, Bool, true, false, Some, List, refl, ap, sym, subst, ◌∙◌, arith}
 use Rattle.std.specs.Prelude.{nat_eq}
 use Rattle.std.proofs.lemmas.Option.{none-some}
 use Rattle.pv_base.specs.declared.Name.{Name}
@@ -7,65 +7,24 @@ use Rattle.pv_ast.specs.declared.PvType.TheVariants.{Object}
 use Rattle.pv_values.specs.declared.value.Value.TheVariants as value
 use Rattle.pv_fraction.specs.Amounts.{whole}
 use Rattle.pv_picks.specs.Plain.Core.{Program}
-use Rattle.pv_picks.specs.Formulas.Heaps.{Heap, at_number}
+use Rattle.pv_picks.specs.Formulas.Heaps.{Heap}
 use Rattle.pv_picks.specs.Judge.States.{Resource}
 use Rattle.pv_picks.specs.Machine.Frames.{Frame}
 use Rattle.pv_picks.specs.Machine.Worlds.{Role, Entry, RunOf, MemberOf, Thread, OpenBlock, ThreadState, World}
 use Rattle.pv_picks.specs.Machine.Steps.{Result, waits_unless}
 use Rattle.pv_picks.proofs.Sames.{naturals_same}
 use Rattle.pv_picks.specs.Typing.Frames.{HasType}
-use Rattle.account_formulas.specs.Owning.{Amounts}
 use Rattle.account_formulas.specs.Growing.{HeapFits}
 use Rattle.account_formulas.proofs.Basics.{nat_self}
 use Rattle.account_formulas.proofs.Picking.{not_beyond}
 use Rattle.account.specs.Frames as account
 use Rattle.account.specs.Frames.{AreRunsOf, all_of, amounts_of}
 use Rattle.account.specs.Owners.{Owners, sum_below}
-use Rattle.account.specs.Objects.{AtBottom, IsThreadOf, RoleFits}
-use Rattle.account.specs.Blocks.{BlocksFit}
-use Rattle.account.specs.Messages.{MailFits}
-use Rattle.account.specs.Accounts.{ThreadsRun, Account, Kept}
+use Rattle.account.specs.Objects.{IsThreadOf, RoleFits}
+use Rattle.account.specs.Accounts.{Account, Kept}
 use Rattle.account.proofs.Sums.{below_other, part_of, runs_in_total}
-use Rattle.account_threads.proofs.Moving.{Onto, owners_with, threads_move, roles_move, blocks_move, mail_moves}
-
--- what is said of all threads
-pub record Families (p : Program) (flags : ℕ → Bool) (heap : Heap) (count : ℕ) (threads : ℕ → Thread) (block_count : ℕ)
-    (blocks : ℕ → OpenBlock) (state : ℕ → ThreadState) (o : Owners) : Type 0 where
-  pub threads_run : ThreadsRun p flags heap count threads o.runs
-  pub roles : (j : ℕ) → j < count → RoleFits p flags heap state j (threads j).role (threads j).frames (o.runs j)
-  pub blocks_fit : BlocksFit p flags heap count threads block_count blocks o
-  pub mail : MailFits p flags heap count threads blocks o
-
-pub families_of : (p : Program) (w : World) (a : Account p w)
-    → Families p w.committed w.heap w.count w.threads w.block_count w.blocks w.state a.owners
-families_of p w a = record { threads_run = a.threads; roles = a.roles; blocks_fit = a.blocks; mail = a.mail }
-
--- a thread goes on
-pub families_move : (p : Program) (flags : ℕ → Bool) (heap : Heap) (count : ℕ) (threads : ℕ → Thread) (block_count : ℕ)
-    (blocks : ℕ → OpenBlock) (state : ℕ → ThreadState) (o : Owners) (i : ℕ)
-    (f : Frame) (below : List Frame) (stack : (threads i).frames ≡ f ∷ below)
-    (r : account.Run) (rs : List account.Run) (has_runs : o.runs i ≡ r ∷ rs)
-    (g : Frame) (s : account.Run) → Onto f g r s → i < count → AreRunsOf p flags heap (g ∷ below) (s ∷ rs)
-    → (promise guard : ℕ → Amounts)
-    → Families p flags heap count threads block_count blocks state o
-    → Families p flags heap count (at_number i (record { role = (threads i).role; frames = g ∷ below }) threads) block_count
-    blocks state (owners_with o i (s ∷ rs) promise guard)
-families_move p flags heap count threads block_count blocks state o i f below stack r rs has_runs g s onto l new promise guard k =
-    record {
-      threads_run = threads_move p flags heap count threads o i f below stack r rs has_runs g s l k.threads_run new;
-      roles = roles_move p flags heap count threads o i f below stack r rs has_runs g s onto state k.roles;
-      blocks_fit =
-          blocks_move p flags heap count threads o i f below stack r rs has_runs g s onto block_count blocks promise guard
-          k.blocks_fit;
-      mail = mail_moves p flags heap count threads o i f below stack r rs has_runs g s onto blocks promise guard k.mail;
-    }
-
-pub bottom_goes : (P Q : Frame → account.Run → Type 0) → ((f : Frame) (r : account.Run) → P f r → Q f r) → (fs : List Frame)
-    (rs : List account.Run) → AtBottom P fs rs → AtBottom Q fs rs
-bottom_goes P Q goes [] rs h = tt
-bottom_goes P Q goes (f ∷ fs) [] h = absurd h
-bottom_goes P Q goes (f ∷ []) (r ∷ rs) h = goes f r h
-bottom_goes P Q goes (f ∷ g ∷ fs) (r ∷ rs) h = bottom_goes P Q goes (g ∷ fs) rs h
+use Rattle.account.proofs.Bottom.{bottom_as}
+use Rattle.account.proofs.Moving.{Families}
 
 -- What a thread has
 
@@ -121,7 +80,7 @@ pub role_restated : (p : Program) (flags : ℕ → Bool) (heap : Heap) (state ot
     → RoleFits p flags heap other j role fs rs
 role_restated p flags heap state other j same Entry fs rs h = h
 role_restated p flags heap state other j same (RunOf x) fs rs h =
-    bottom_goes (IsThreadOf p flags heap state j x) (IsThreadOf p flags heap other j x)
+    bottom_as (IsThreadOf p flags heap state j x) (IsThreadOf p flags heap other j x)
     (λ f r k. record {
       this = k.this;
       class = k.class;

@@ -20,7 +20,8 @@ use Rattle.account.specs.Owners.{Opened, Mail, Owners}
 use Rattle.account.specs.Objects.{IsThreadOf, IsTakenFromNothing, RoleFits}
 use Rattle.account.specs.Blocks.{WaitsForMembers, HasArrived, MemberRuns}
 use Rattle.account.specs.Messages.{Lies}
-use Rattle.account_threads.proofs.Families.{Families, bottom_goes}
+use Rattle.account.proofs.Bottom.{bottom_as}
+use Rattle.account.proofs.Moving.{Families}
 
 -- Flags may rise: what is owned, and each run, goes on.
 module _ (p : Program) (flags more : ℕ → Bool) (rises : (o : ℕ) → flags o ≡ true → more o ≡ true) where
@@ -198,7 +199,7 @@ module _ (p : Program) (flags more : ℕ → Bool) (rises : (o : ℕ) → flags 
       → RoleFits p flags heap state i role fs rs → RoleFits p more heap state i role fs rs
   role_flagged state i Entry fs rs h = h
   role_flagged state i (RunOf x) fs rs h =
-      bottom_goes (IsThreadOf p flags heap state i x) (IsThreadOf p more heap state i x) (thread_flagged state i x) fs rs h
+      bottom_as (IsThreadOf p flags heap state i x) (IsThreadOf p more heap state i x) (thread_flagged state i x) fs rs h
   role_flagged state i (MemberOf b position) fs rs h = tt
 
   waits_for_flagged : (count : ℕ) (threads : ℕ → Thread) (block_count : ℕ) (left : ℕ → Amounts) (opening : Opened) (i b : ℕ)

@@ -33,7 +33,6 @@ use Rattle.account.specs.Owners.{Owners, carried_by, nothing, total, without_loc
 use Rattle.account.specs.Objects.{ObjectsFit, IsTakenFromNothing, IsThreadOf}
 use Rattle.account.specs.Verified.{IsVerifiedThroughout}
 use Rattle.account.specs.Going.{Begins}
-use Rattle.account.specs.Scoped.{TasksSay}
 use Rattle.account.proofs.Beginning.{begins}
 use Rattle.pv_picks.specs.Typing.Blocks.{types_of, over}
 use Rattle.pv_picks.specs.Typing.Expressions.{silent}
@@ -57,10 +56,10 @@ use Rattle.account_threads.proofs.Forking.{ForkGoes, forks_go, run_stays}
 use Rattle.account_threads.proofs.Joining.{without_token}
 use Rattle.account_threads.proofs.Joined.{other_token}
 use Rattle.account_threads.proofs.Adding.{with_more, families_add, total_with_more}
-use Rattle.account_threads.proofs.Moving.{same_head, owners_with}
-use Rattle.account_threads.proofs.Going.{open_never, onto, runs_go}
+use Rattle.account_threads.proofs.Going.{families_go}
 use Rattle.account_threads.proofs.Locked.{nothing_of}
-use Rattle.account_threads.proofs.Families.{Families, families_of, families_move, families_restated, own_most, object_is, waits_kept}
+use Rattle.account.proofs.Moving.{first_same, closes_not, Families, families_of, owners_with}
+use Rattle.account_threads.proofs.Families.{families_restated, own_most, object_is, waits_kept}
 
 module _ (p : Program) (w : World) (a : Account p w) (sound : HeapFits p w.heap) (framed : PredicatesFit p w.heap)
     (i : ℕ) (f : Frame) (below : List Frame) (stack : (w.threads i).frames ≡ f ∷ below)
@@ -256,18 +255,14 @@ module _ (p : Program) (w : World) (a : Account p w) (sound : HeapFits p w.heap)
       (at_number i (record { role = (w.threads i).role; frames = settled (pops 1 f rest) ∷ below }) w.threads) w.block_count
       w.blocks state moved (record { role = RunOf (object_on f); frames = first ∷ [] }) (begun.run ∷ []) (begun.fits, tt) runs_it
       (λ b position e. absurd (cc e))
-      (λ h hs b ts e t. open_never (standing_in p first.class begun.run.body begun.run.outer) begun.run.inner begun.run.scope
-      begun.run.given begun.run.stack b ts
-      (subst (TasksSay (standing_in p first.class begun.run.body begun.run.outer) begun.run.inner begun.run.scope begun.run.given
-      begun.run.stack) (ap (λ z. z.tasks) (same_head first h [] hs e) ∙ t) begun.says))
+      (λ h hs b ts e t. closes_not (standing_in p first.class begun.run.body begun.run.outer) begun.run.inner begun.run.scope
+      begun.run.given begun.run.stack first begun.says b ts (ap (λ z. z.tasks) (first_same first h [] hs e) ∙ t))
       (families_restated p w.committed w.heap w.count
       (at_number i (record { role = (w.threads i).role; frames = settled (pops 1 f rest) ∷ below }) w.threads) w.block_count
       w.blocks w.state state moved runs_still
-      (families_move p w.committed w.heap w.count w.threads w.block_count w.blocks w.state a.owners i f below stack r rs has_runs
-      (settled (pops 1 f rest)) done.run
-      (onto p w.committed w.heap sound framed f r fits.0 Fork class span rest is g.run g.past g.body done) inside
-      (runs_go p w.committed w.heap sound framed f r fits.0 Fork class span rest is g.run g.past g.body done below rs fits.1)
-      a.owners.promise a.owners.guard (families_of p w a)))
+      (families_go p w.committed w.heap sound framed f r fits.0 Fork class span rest is g.run g.past g.body done w.count w.threads
+      w.block_count w.blocks w.state a.owners i below stack rs has_runs fits.1 a.owners.promise a.owners.guard
+      (families_of p w a)))
 
   forked : Account p (with_state (with_thread (with_frames w i (settled (pops 1 f rest) ∷ below))
       (record { role = RunOf (object_on f); frames = first ∷ [] })) (object_on f) (ThreadState.Running w.count))

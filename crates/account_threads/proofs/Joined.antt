@@ -43,10 +43,10 @@ use Rattle.account.proofs.Locks.{locks_less, owns_locked}
 use Rattle.account_threads.proofs.OfObject.{by_test, keeps_itself}
 use Rattle.account_threads.proofs.Acting.{object_on, allowed, acts_on_class}
 use Rattle.account_threads.proofs.Joining.{JoinGoes, without_token, joins_go}
-use Rattle.account_threads.proofs.Moving.{owners_with}
-use Rattle.account_threads.proofs.Going.{onto, runs_go}
+use Rattle.account_threads.proofs.Going.{families_go}
 use Rattle.account_threads.proofs.Locked.{nothing_of}
-use Rattle.account_threads.proofs.Families.{Families, families_of, families_move, role_restated, object_is, object_below, waits_kept}
+use Rattle.account.proofs.Moving.{Families, families_of, owners_with}
+use Rattle.account_threads.proofs.Families.{role_restated, object_is, object_below, waits_kept}
 
 -- of a token of another object
 pub other_token : (kind other : Token) (d class : Name) (x y : ℕ) → nat_eq x y ≡ false
@@ -220,10 +220,8 @@ module _ (p : Program) (w : World) (a : Account p w) (sound : HeapFits p w.heap)
       (at_number i (record { role = (w.threads i).role; frames = settled (pops 1 f rest) ∷ below }) w.threads) w.block_count
       w.blocks w.state after
   families =
-      families_move p w.committed w.heap w.count w.threads w.block_count w.blocks w.state a.owners i f below stack r rs has_runs
-      (settled (pops 1 f rest)) done.run
-      (onto p w.committed w.heap sound framed f r fits.0 Join' class span rest is g.run g.past g.body done) inside
-      (runs_go p w.committed w.heap sound framed f r fits.0 Join' class span rest is g.run g.past g.body done below rs fits.1)
+      families_go p w.committed w.heap sound framed f r fits.0 Join' class span rest is g.run g.past g.body done w.count w.threads
+      w.block_count w.blocks w.state a.owners i below stack rs has_runs fits.1
       (at_number (object_on f) nothing a.owners.promise) a.owners.guard (families_of p w a)
 
   -- who runs goes on to do so

@@ -2,7 +2,6 @@ pub mod OfObject
 pub mod Acting
 pub mod Left
 pub mod Unlocking
-pub mod Moving
 pub mod Going
 pub mod Families
 pub mod Unlocked

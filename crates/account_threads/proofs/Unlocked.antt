@@ -32,9 +32,9 @@ use Rattle.account_threads.specs.Parts.{InvariantsFit}
 use Rattle.account.proofs.Locks.{locks_less}
 use Rattle.account_threads.proofs.Acting.{object_on, allowed, acts_on_class}
 use Rattle.account_threads.proofs.Unlocking.{UnlockGoes, unlocks_go}
-use Rattle.account_threads.proofs.Moving.{owners_with}
-use Rattle.account_threads.proofs.Going.{onto, runs_go}
-use Rattle.account_threads.proofs.Families.{Families, families_of, families_move, two_of, own_most, object_is, object_below, waits_kept}
+use Rattle.account_threads.proofs.Going.{families_go}
+use Rattle.account.proofs.Moving.{Families, families_of, owners_with}
+use Rattle.account_threads.proofs.Families.{two_of, own_most, object_is, object_below, waits_kept}
 
 module _ (p : Program) (w : World) (a : Account p w) (sound : HeapFits p w.heap) (framed : PredicatesFit p w.heap)
     (parts : InvariantsFit p w.heap) (i : ℕ) (f : Frame) (below : List Frame) (stack : (w.threads i).frames ≡ f ∷ below)
@@ -138,10 +138,8 @@ module _ (p : Program) (w : World) (a : Account p w) (sound : HeapFits p w.heap)
       (at_number i (record { role = (w.threads i).role; frames = settled (pops 1 f rest) ∷ below }) w.threads) w.block_count
       w.blocks w.state after
   families =
-      families_move p w.committed w.heap w.count w.threads w.block_count w.blocks w.state a.owners i f below stack r rs has_runs
-      (settled (pops 1 f rest)) done.run
-      (onto p w.committed w.heap sound framed f r fits.0 Unlock class span rest is g.run g.past g.body done) inside
-      (runs_go p w.committed w.heap sound framed f r fits.0 Unlock class span rest is g.run g.past g.body done below rs fits.1)
+      families_go p w.committed w.heap sound framed f r fits.0 Unlock class span rest is g.run g.past g.body done w.count
+      w.threads w.block_count w.blocks w.state a.owners i below stack rs has_runs fits.1
       a.owners.promise (at_number (object_on f) (without_locks g.part) a.owners.guard) (families_of p w a)
 
   unlocked : Account p (with_holder (with_frames w i (settled (pops 1 f rest) ∷ below)) (object_on f) None)

@@ -2,7 +2,9 @@ pub mod Nodes
 pub mod Objects
 pub mod Arrays
 pub mod Threads
+pub mod Witnesses
 pub mod CoreNodes
 pub mod CoreObjects
 pub mod CoreArrays
 pub mod CoreThreads
+pub mod CoreWitnesses

@@ -1,12 +1,19 @@
 -- How a run of the judge is followed on any picks: what it comes to where it goes on never fails.
-use Rattle.std.proofs.Common.{◌≡◌, ℕ, zero, suc, ℤ, pos, negsuc, Bool, true, false, if◌then◌else◌, List, [], ◌∷◌, refl, rules}
+use Rattle.std.proofs.Common.{◌≡◌, ℕ, zero, suc, ℤ, pos, negsuc, Bool, true, false, if◌then◌else◌, List, [], ◌∷◌, refl, sym, subst, rules}
 use Rattle.std.proofs.lemmas.Int.{ints}
 use Rattle.std.specs.Prelude.{nat_eq, nat_lt}
+use Rattle.std.specs.List.{AllByRecursion}
 use Rattle.pv_values.specs.Heaps.{same_number}
 use Rattle.pv_base.specs.declared.Span.{Span}
 use Rattle.pv_picks.specs.declared.check.Check.{Check}
 use Rattle.pv_picks.specs.declared.evidence.Pick.{Pick}
 use Rattle.pv_picks.specs.declared.evidence.Pick.TheVariants.{Number, Turn, Steps}
+use Rattle.pv_ast.specs.declared.Program.{Program}
+use Rattle.pv_picks.specs.Plain.Core as core
+use Rattle.pv_picks.specs.Elaborating.Programs.{core_of}
+use Rattle.pv_picks.specs.Verdicts.Grounds.{NeverFails}
+use Rattle.pv_picks.specs.Verdicts.Theorems.{IsVerified}
+use Rattle.pv_picks.specs.Verdicts.Units.{units_of}
 use Rattle.pv_picks.specs.Judge.Runs.{Judged, End, Finished, Blocked, Failed, pick_number, pick_turn}
 
 abbrev pub Ends : End → Type 0
@@ -70,3 +77,7 @@ number_self z = search (rules, ints)
 
 pub numbers_same : (a b : ℤ) → same_number a b ≡ true → a ≡ b
 numbers_same a b h = search (rules, ints)
+
+-- what a program becomes was worked out
+pub verified_as : (p : Program) (c : core.Program) → core_of p ≡ c → AllByRecursion (NeverFails c) (units_of p) → IsVerified p
+verified_as p c is all = subst (λ c. AllByRecursion (NeverFails c) (units_of p)) (sym is) all

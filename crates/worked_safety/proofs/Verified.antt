@@ -16,13 +16,10 @@ use Rattle.worked_trees.proofs.Objects.{objects_become}
 use Rattle.worked_safety.specs.Verified.{CounterIsVerified, ChainIsVerified, CounterPasses, WritersAreNotVerified}
 use Rattle.machine_loops.proofs.Programs.{passed}
 use Rattle.soundness.proofs.Runs.{safe}
+use Rattle.worked_safety.proofs.Safely.{verified_as}
 use Rattle.worked_safety.proofs.Formed.{well_formed}
 use Rattle.worked_safety.proofs.Counter.{increments}
 use Rattle.worked_safety.proofs.Chain.{body_safe, up_safe}
-
--- what a program becomes was worked out
-verified_as : (p : Program) (c : core.Program) → core_of p ≡ c → AllByRecursion (NeverFails c) (units_of p) → IsVerified p
-verified_as p c is all = subst (λ c. AllByRecursion (NeverFails c) (units_of p)) (sym is) all
 
 pub counter_verified : CounterIsVerified
 counter_verified =

@@ -1,5 +1,6 @@
 mod Objects
 mod Arrays
 mod Threads
+mod Witnesses
 mod Longest
 mod Bytes

@@ -4,3 +4,4 @@ pub mod TokensArrays
 pub mod TokensThreads
 pub mod Readings
 pub mod Bytes
+pub mod TokensWitnesses

@@ -8,6 +8,8 @@ use Rattle.worked_programs.specs.Arrays as arrays
 use Rattle.worked_texts.specs.TokensArrays as tokens_of_arrays
 use Rattle.worked_programs.specs.Threads as threads
 use Rattle.worked_texts.specs.TokensThreads as tokens_of_threads
+use Rattle.worked_programs.specs.Witnesses as witnesses
+use Rattle.worked_texts.specs.TokensWitnesses as tokens_of_witnesses
 
 abbrev pub ObjectsRead : Type 0
 ObjectsRead =
@@ -41,3 +43,12 @@ ThreadsRead =
     × (program 64 None tokens_of_threads.shift ≡ Good threads.shift [])
     × (program 64 None tokens_of_threads.copying ≡ Good threads.copying [])
     × (program 64 None tokens_of_threads.copying_unsent ≡ Good threads.copying_unsent [])
+
+abbrev pub WitnessesRead : Type 0
+WitnessesRead =
+    (program 64 None tokens_of_witnesses.handed ≡ Good witnesses.handed [])
+    × (program 64 None tokens_of_witnesses.relay ≡ Good witnesses.relay [])
+    × (program 64 None tokens_of_witnesses.posted ≡ Good witnesses.posted [])
+    × (program 64 None tokens_of_witnesses.list ≡ Good witnesses.list [])
+    × (program 64 None tokens_of_witnesses.members_race ≡ Good witnesses.members_race [])
+    × (program 64 None tokens_of_witnesses.overwritten ≡ Good witnesses.overwritten [])

@@ -3,3 +3,4 @@ mod Rules
 pub mod Objects
 mod Arrays
 mod Threads
+pub mod Witnesses

@@ -7,6 +7,8 @@ use Rattle.worked_programs.specs.Arrays as arrays
 use Rattle.worked_programs.specs.CoreArrays as core_arrays
 use Rattle.worked_programs.specs.Threads as threads
 use Rattle.worked_programs.specs.CoreThreads as core_threads
+use Rattle.worked_programs.specs.Witnesses as witnesses
+use Rattle.worked_programs.specs.CoreWitnesses as core_witnesses
 
 abbrev pub ObjectsBecome : Type 0
 ObjectsBecome =
@@ -40,3 +42,12 @@ ThreadsBecome =
     × (core_of threads.shift ≡ core_threads.shift)
     × (core_of threads.copying ≡ core_threads.copying)
     × (core_of threads.copying_unsent ≡ core_threads.copying_unsent)
+
+abbrev pub WitnessesBecome : Type 0
+WitnessesBecome =
+    (core_of witnesses.handed ≡ core_witnesses.handed)
+    × (core_of witnesses.relay ≡ core_witnesses.relay)
+    × (core_of witnesses.posted ≡ core_witnesses.posted)
+    × (core_of witnesses.list ≡ core_witnesses.list)
+    × (core_of witnesses.members_race ≡ core_witnesses.members_race)
+    × (core_of witnesses.overwritten ≡ core_witnesses.overwritten)

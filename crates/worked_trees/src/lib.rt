@@ -2,7 +2,7 @@
 //! trees were worked out apart from the definitions.
 #![tactic(auto)]
 
-ghost use Rattle.worked_trees.specs.Programs.{ObjectsBecome, ArraysBecome, ThreadsBecome};
+ghost use Rattle.worked_trees.specs.Programs.{ObjectsBecome, ArraysBecome, ThreadsBecome, WitnessesBecome};
 
 /// Programs of objects and fields.
 pub fn objects_become()
@@ -17,4 +17,9 @@ pub fn arrays_become()
 /// Programs of locks, blocks, barriers and messages.
 pub fn threads_become()
     ensures { ThreadsBecome }
+{}
+
+/// Small programs that show what soundness speaks of: a lock that is handed on, a barrier, a message, a list, and two that aren't safe.
+pub fn witnesses_become()
+    ensures { WitnessesBecome }
 {}

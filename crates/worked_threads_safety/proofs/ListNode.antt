@@ -1,0 +1,208 @@
+-- A list that is gone through by a recursive predicate and a recursive method: whatever is picked, the judge fails on no unit.
+use Rattle.std.proofs.Common.{◌≡◌, ℕ, ℤ, pos, Bool, true, false, if◌then◌else◌, Option, Some, None, List, [], ◌∷◌, refl, ap}
+use Rattle.std.specs.Prelude.{◌-◌, ◌+ℤ◌, ◌++◌, nat_eq, nat_le}
+use Rattle.pv_ast.specs.declared.PvType.TheVariants as type
+use Rattle.pv_values.specs.declared.value.Value.{Value}
+use Rattle.pv_values.specs.declared.value.Value.TheVariants as value
+use Rattle.pv_fraction.specs.Amounts.{whole}
+use Rattle.pv_picks.specs.declared.check.Check.TheVariants as check
+use Rattle.pv_picks.specs.declared.evidence.Entry.{Entry}
+use Rattle.pv_picks.specs.declared.unit.Part.TheVariants as part
+use Rattle.pv_picks.specs.declared.unit.PvUnit.{PvUnit}
+use Rattle.pv_picks.specs.Plain.Core.{Expression, This, Variable, Field, Equal, Constant, Compute, Plain, Plus, Formula, Instance, Block, Stop, Then, Fold, Unfold, If, Assign, Nowhere, ToField, Value', Call}
+use Rattle.pv_picks.specs.Formulas.Values.{no_variables}
+use Rattle.pv_picks.specs.Judge.Rows.{Site}
+use Rattle.pv_picks.specs.Judge.States.{State, Folded, Holding, Written, Resource, InField, amount_of, cells_of, with_amount, with_value, with_cell, with_met, with_instances, without_instance}
+use Rattle.pv_picks.specs.Judge.Settings.{Setting}
+use Rattle.pv_picks.specs.Judge.Judging.{judge_block, at_body_end}
+use Rattle.pv_picks.specs.Judge.Runs.{Maps, Judged, judging}
+use Rattle.pv_picks.specs.Judge.UnitRuns.{of_method, judge_task, task_of}
+use Rattle.worked_programs.specs.Nodes.{name, at}
+use Rattle.worked_programs.specs.CoreWitnesses.{list}
+use Rattle.worked_safety.proofs.Safely.{Safe, blocks, finishes, picked, signed, tested, passed, failed, turned, same_self}
+use Rattle.worked_threads_safety.proofs.Rows.{entered, remembered, gains, gains_reference, reads, takes, unless}
+
+abbrev number_in : ℕ → Resource
+number_in n = InField (name 0) n (name 1)
+
+abbrev next_in : ℕ → Resource
+next_in n = InField (name 0) n (name 2)
+
+abbrev unit : ℕ → PvUnit
+unit place = record { class = 0; part = part.Member place }
+
+abbrev folded : ℕ → Folded
+folded n = record { class = name 0; predicate = name 3; object = n; arguments = [] }
+
+-- the rest of the list, which is folded
+abbrev behind : ℕ → List Folded
+behind m = if nat_eq m 0 then [] else folded m ∷ []
+
+abbrev whole_of : Value → Option Holding
+whole_of v = Some (record { amount = whole; cell = Written v })
+
+module _ (maps : Maps) (table : List Entry) where
+  abbrev S : Setting Judged
+  S = judging maps table
+
+  abbrev site : Site
+  site = of_method no_variables
+
+  abbrev on : Block → State → Judged
+  on b = judge_block S list site b
+      (at_body_end S site check.Ensures (Instance (name 0) (name 3) This [] (at 153 159)))
+
+  abbrev folding : Block
+  folding = Then (Fold (name 0) (name 3) This [] (at 250 262)) Stop
+
+  -- the node is unfolded, and this node is next
+  record Opened (m : ℕ) (s : State) : Type 0 where
+    there : nat_eq s.this 0 ≡ false
+    number : ℤ
+    at_number : s.held (number_in s.this) ≡ whole_of (value.Number number)
+    at_next : s.held (next_in s.this) ≡ whole_of (value.Reference m)
+    rest : s.instances ≡ behind m
+
+  found : (m : ℕ) → without_instance (folded m) (folded m ∷ []) ≡ Some []
+  found m = rw (same_self m) refl
+
+  -- the rest is there where something is next
+  behind_some : (m : ℕ) (instances : List Folded) → instances ≡ behind m → nat_eq m 0 ≡ false
+      → without_instance (folded m) instances ≡ Some []
+  behind_some m instances is some = rw (is, some, same_self m) refl
+
+  behind_none : (m : ℕ) (instances : List Folded) → instances ≡ behind m → nat_eq m 0 ≡ true → instances ≡ []
+  behind_none m instances is none = rw (is, none) refl
+
+  -- the promise at the end
+  ends : (s : State) → s.instances ≡ folded s.this ∷ []
+      → Safe (at_body_end S site check.Ensures (Instance (name 0) (name 3) This [] (at 153 159)) s)
+  ends s is =
+      takes maps table (without_instance (folded s.this) s.instances) [] _ _ s (rw (is, same_self s.this) refl) finishes
+
+  -- without the number, and without what is next
+  abbrev less : State → State
+  less s = with_amount s (number_in s.this) (amount_of s (number_in s.this) - whole)
+
+  abbrev given : State → State
+  given s = with_amount (less s) (next_in s.this) (amount_of (less s) (next_in s.this) - whole)
+
+  folds : (m : ℕ) (s : State) → Opened m s → Safe (on folding s)
+  folds m s h =
+      failed (nat_eq s.this 0) _ _ h.there
+      (passed (nat_le whole (amount_of s (number_in s.this))) _ _ (rw (h.at_number) refl)
+      (passed (nat_le whole (amount_of (less s) (next_in s.this))) _ _ (rw (same_self s.this, h.at_next) refl)
+      (reads maps table (cells_of s (next_in s.this)) (value.Reference m) _ _ (given s) (rw (h.at_next) refl)
+      (unless (nat_eq m 0) _ _
+      (λ some. reads maps table (cells_of s (next_in s.this)) (value.Reference m) _ _ (given s) (rw (h.at_next) refl)
+      (takes maps table (without_instance (folded m) s.instances) [] _ _ (given s) (behind_some m s.instances h.rest some)
+      (ends (with_instances (given s) ([] ++ folded s.this ∷ [])) refl)))
+      (λ none. ends (with_instances (given s) (s.instances ++ folded s.this ∷ []))
+      (rw (behind_none m s.instances h.rest none) refl))))))
+
+  abbrev calling : Block
+  calling = Then
+      (If (Equal false (Field This (name 0) (name 2) (at 217 221)) (Constant (value.Reference 0)))
+      (Then (Assign Nowhere (Call (name 0) (name 4) (Field This (name 0) (name 2) (at 233 237)) []) (at 233 243)) Stop) Stop)
+      folding
+
+  calls : (m : ℕ) (s : State) → Opened m s → Safe (on calling s)
+  calls m s h =
+      failed (nat_eq s.this 0) _ _ h.there
+      (reads maps table (cells_of s (next_in s.this)) (value.Reference m) _ _ s (rw (h.at_next) refl)
+      (unless (nat_eq m 0) _ _
+      (λ some. failed (nat_eq s.this 0) _ _ h.there
+      (reads maps table (cells_of s (next_in s.this)) (value.Reference m) _ _ s (rw (h.at_next) refl)
+      (failed (nat_eq m 0) _ _ some
+      (takes maps table (without_instance (folded m) s.instances) [] _ _ s (behind_some m s.instances h.rest some)
+      (folds m (with_instances s ([] ++ folded m ∷ [])) (record {
+        there = h.there;
+        number = h.number;
+        at_number = h.at_number;
+        at_next = h.at_next;
+        rest = rw (some) refl;
+      }))))))
+      (λ none. folds m s h)))
+
+  abbrev writing : Block
+  writing = Then
+      (Assign (ToField This (name 0) (name 1) (at 198 199))
+      (Value' (Compute Plain Plus (Field This (name 0) (name 1) (at 202 203)) (Constant (value.Number (pos 1))) (at 202 207)))
+      (at 198 208))
+      calling
+
+  writes : (m : ℕ) (s : State) → Opened m s → Safe (on writing s)
+  writes m s h =
+      failed (nat_eq s.this 0) _ _ h.there
+      (reads maps table (cells_of s (number_in s.this)) (value.Number h.number) _ _ s (rw (h.at_number) refl)
+      (failed (nat_eq s.this 0) _ _ h.there
+      (passed (nat_le whole (amount_of s (number_in s.this))) _ _ (rw (h.at_number) refl)
+      (calls m (with_value s (number_in s.this) (value.Number (h.number +ℤ pos 1))) (record {
+        there = h.there;
+        number = h.number +ℤ pos 1;
+        at_number = rw (same_self s.this, h.at_number) refl;
+        at_next = rw (same_self s.this, h.at_next) refl;
+        rest = h.rest;
+      })))))
+
+  -- the folded node, of which nothing is held
+  record Closed (s : State) : Type 0 where
+    there : nat_eq s.this 0 ≡ false
+    none : (r : Resource) → s.held r ≡ None
+    node : s.instances ≡ folded s.this ∷ []
+
+  -- the number is taken in, and what is next
+  abbrev with_number : ℤ → State → State
+  with_number z s = with_cell (with_instances s []) (number_in s.this) whole (value.Number z)
+
+  abbrev with_next : ℤ → ℕ → State → State
+  with_next z m s =
+      with_cell (with_met (with_number z s) (type.Object (name 0)) m) (next_in s.this) whole (value.Reference m)
+
+  abbrev starting : Block
+  starting = Then (Unfold (name 0) (name 3) This [] (at 179 193)) writing
+
+  unfolds : (s : State) → Closed s → Safe (on starting s)
+  unfolds s h =
+      takes maps table (without_instance (folded s.this) s.instances) [] _ _ s (rw (h.node, same_self s.this) refl)
+      (gains maps table (name 0) s.this (name 1) _ (with_instances s []) h.there (h.none (number_in s.this)) λ z.
+      gains_reference maps table (name 0) s.this (name 2) (name 0) _ (with_number z s) h.there
+      (rw (same_self s.this) (h.none (next_in s.this))) λ m.
+      reads maps table (cells_of (with_next z m s) (next_in s.this)) (value.Reference m) _ _ (with_next z m s)
+      (rw (same_self s.this) refl)
+      (unless (nat_eq m 0) _ _
+      (λ some. reads maps table (cells_of (with_next z m s) (next_in s.this)) (value.Reference m) _ _ (with_next z m s)
+      (rw (same_self s.this) refl)
+      (writes m (with_instances (with_next z m s) ([] ++ folded m ∷ [])) (record {
+        there = h.there;
+        number = z;
+        at_number = rw (same_self s.this) refl;
+        at_next = rw (same_self s.this) refl;
+        rest = rw (some) refl;
+      })))
+      (λ none. writes m (with_next z m s) (record {
+        there = h.there;
+        number = z;
+        at_number = rw (same_self s.this) refl;
+        at_next = rw (same_self s.this) refl;
+        rest = rw (none) refl;
+      }))))
+
+  pub up_safe : Safe (judge_task S list (task_of list (unit 3)))
+  up_safe =
+      picked (signed _ (λ n. blocks) λ n. tested (nat_eq n 0) _ _ (λ e. blocks) λ e.
+      turned _ (λ m. blocks) finishes
+      (unfolds (remembered (with_instances (entered (name 0) n) (folded n ∷ [])))
+      (record { there = e; none = λ r. refl; node = refl })))
+
+  pub body_safe : Safe (judge_task S list (task_of list (unit 2)))
+  body_safe =
+      picked (signed _ (λ n. blocks) λ n. tested (nat_eq n 0) _ _ (λ e. blocks) λ e. picked λ z.
+      gains_reference maps table (name 0) n (name 2) (name 0) _
+      (with_number z (entered (name 0) n)) e (rw (same_self n) refl) λ m.
+      reads maps table (cells_of (with_next z m (entered (name 0) n)) (next_in n)) (value.Reference m) _ _
+      (with_next z m (entered (name 0) n)) (rw (same_self n) refl)
+      (unless (nat_eq m 0) _ _
+      (λ some. reads maps table (cells_of (with_next z m (entered (name 0) n)) (next_in n)) (value.Reference m) _ _
+      (with_next z m (entered (name 0) n)) (rw (same_self n) refl) finishes)
+      (λ none. finishes)))

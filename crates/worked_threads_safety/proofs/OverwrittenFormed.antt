@@ -1,0 +1,35 @@
+-- The counted loop whose members overwrite one another: the program is well formed.
+use Rattle.std.proofs.Common.{refl, []}
+use Rattle.pv_ast.specs.Rules.WellFormed.{IsWellFormed}
+use Rattle.worked_programs.specs.Nodes.{at, word, contract, range}
+use Rattle.worked_programs.specs.Witnesses.{overwritten}
+use Rattle.worked_threads_safety.proofs.Folds.{number, var, assign, counted}
+use Rattle.worked_threads_safety.proofs.Trees.{Tree, Number, Var, tree_of, checked, shaped}
+use Rattle.worked_threads_safety.proofs.Pieces.{Piece, Assign, For, End, Next, statement_checked, statement_shaped}
+use Rattle.worked_threads_safety.proofs.Forming.{formed}
+
+-- its expressions, by the byte at which each begins
+abbrev node_55 : Tree
+node_55 = Number (at 55 56) 0
+
+abbrev node_60 : Tree
+node_60 = Number (at 60 61) 2
+
+abbrev node_71 : Tree
+node_71 = Var (at 71 72) (word 1 71 72)
+
+abbrev node_75 : Tree
+node_75 = Var (at 75 76) (word 3 75 76)
+
+-- its statements
+abbrev statement_42 : Piece
+statement_42 = For (at 42 83) (range (word 3 51 52) (tree_of node_55) (tree_of node_60)) (contract [])
+    (Next (Assign (at 71 77) node_71 (at 75 76) node_75) End)
+
+pub overwritten_formed : IsWellFormed overwritten
+overwritten_formed =
+    formed overwritten
+    (rw (statement_checked statement_42, checked node_55, checked node_60, checked node_71, checked node_75) refl)
+    (rw (statement_shaped statement_42, shaped node_55, shaped node_60, shaped node_71, shaped node_75) refl)
+    (simp (number, var, assign, counted) refl)
+    (simp (number, var, assign, counted) refl)
