@@ -14,5 +14,6 @@ mod ListFormed
 mod MembersRaceFormed
 mod OverwrittenFormed
 mod Starts
+mod Runs
 mod Verified
 mod Wrong

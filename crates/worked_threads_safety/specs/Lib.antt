@@ -1,2 +1,3 @@
 pub mod Verified
 pub mod Wrong
+pub mod Runs

@@ -2,6 +2,7 @@
 #![tactic(auto)]
 
 ghost use Rattle.worked_threads_safety.specs.Verified.{HandedIsVerified, ListIsVerified, PostedIsVerified, RelayIsVerified, HandedPasses, RelayPasses, PostedPasses, ListPasses};
+ghost use Rattle.worked_threads_safety.specs.Runs.{LockIsHandedOn, FieldIsRelayed, FieldIsSent, ListIsGoneThrough};
 ghost use Rattle.worked_threads_safety.specs.Wrong.{MembersRace, MembersAreNotSafe, MembersAreNotVerified, OverwrittenDisagrees, OverwrittenIsNotVerified};
 
 /// A lock.
@@ -63,4 +64,24 @@ pub fn members_that_overwrite_disagree()
 /// That program is well formed too; so by loop agreement some evidence makes the judge fail.
 pub fn overwriting_members_are_not_verified()
     ensures { OverwrittenIsNotVerified }
+{}
+
+/// A run of the program with the lock: the forked thread waits until the main thread gives the lock, and both come to their ends.
+pub fn a_lock_is_handed_on()
+    ensures { LockIsHandedOn }
+{}
+
+/// A run of the program with the barrier comes to its end.
+pub fn a_field_is_relayed()
+    ensures { FieldIsRelayed }
+{}
+
+/// A run of the program with the message comes to its end.
+pub fn a_field_is_sent()
+    ensures { FieldIsSent }
+{}
+
+/// A run of the program with the list comes to its end.
+pub fn a_list_is_gone_through()
+    ensures { ListIsGoneThrough }
 {}
