@@ -17,7 +17,7 @@ use Rattle.worked_safety.specs.Verified.{CounterIsVerified, ChainIsVerified, Cou
 use Rattle.machine_loops.proofs.Programs.{passed}
 use Rattle.soundness.proofs.Runs.{safe}
 use Rattle.worked_safety.proofs.Safely.{verified_as}
-use Rattle.worked_safety.proofs.Formed.{well_formed}
+use Rattle.worked_safety.proofs.Formed.{counter_formed}
 use Rattle.worked_safety.proofs.Counter.{increments}
 use Rattle.worked_safety.proofs.Chain.{body_safe, up_safe}
 
@@ -41,4 +41,4 @@ writers_refused verified =
 
 -- so soundness speaks of it
 pub counter_passes : CounterPasses
-counter_passes = passed safe trees.counter well_formed counter_verified
+counter_passes = passed safe trees.counter counter_formed counter_verified

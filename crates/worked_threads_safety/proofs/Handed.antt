@@ -85,7 +85,8 @@ module _ (maps : Maps) (table : List Entry) where
   thread_unlocks = Then (Act Unlock (name 1) This (at 119 131)) Stop
 
   abbrev thread_writes : Block
-  thread_writes = Then (Assign (ToField This (name 1) (name 0) (at 108 109)) (Value' (Constant (value.Number (pos 1)))) (at 108 114))
+  thread_writes = Then (Assign (ToField This (name 1) (name 0) (at 108 109)) (Value' (Constant (value.Number (pos 1))))
+      (at 108 114))
       thread_unlocks
 
   thread_goes : (s : State) → nat_eq s.this 0 ≡ false → amount_of s (locked s.this) ≡ whole → amount_of s (field s.this) ≡ whole
@@ -113,7 +114,8 @@ module _ (maps : Maps) (table : List Entry) where
 
   abbrev main_writes : Block
   main_writes = Then
-      (Assign (ToField (Variable (name 4)) (name 1) (name 0) (at 234 237)) (Value' (Constant (value.Number (pos 2)))) (at 234 242))
+      (Assign (ToField (Variable (name 4)) (name 1) (name 0) (at 234 237)) (Value' (Constant (value.Number (pos 2))))
+          (at 234 242))
       main_unlocks
 
   abbrev main_locks : Block
@@ -197,7 +199,8 @@ module _ (maps : Maps) (table : List Entry) where
   made n s =
       with_local
       (with_amount
-      (with_amount (with_cell (with_met s (type.Object (name 1)) n) (field n) whole (value.Number (pos 0))) (held token.Idle n) whole)
+      (with_amount (with_cell (with_met s (type.Object (name 1)) n) (field n) whole (value.Number (pos 0)))
+          (held token.Idle n) whole)
       (held token.Uncommitted n) whole)
       (name 4) (value.Reference n)
 

@@ -3,10 +3,6 @@ mod Handed
 mod ListNode
 mod Posted
 mod Relay
-mod Folds
-mod Trees
-mod Pieces
-mod Forming
 mod HandedFormed
 mod RelayFormed
 mod PostedFormed

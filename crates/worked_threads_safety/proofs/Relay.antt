@@ -106,7 +106,8 @@ module _ (maps : Maps) (table : List Entry) where
   first_safe s h held =
       passed (same_value (s.variables 4) (value.Number (pos 0))) _ _ (rw (h.position) refl)
       (failed (nat_eq s.this 0) _ _ h.there
-      (passed (nat_le whole (amount_of s (field s.this))) _ _ (rw (held) refl) (first_meets (with_value s (field s.this) (value.Number (pos 1))) (record { there = h.there; position = h.position })
+      (passed (nat_le whole (amount_of s (field s.this))) _ _ (rw (held) refl)
+          (first_meets (with_value s (field s.this) (value.Number (pos 1))) (record { there = h.there; position = h.position })
       (rw (same_self s.this, held) refl))))
 
   second_safe : (s : State) → Stands (pos 1) s → s.held (field s.this) ≡ None → Safe (on (pos 1) first_writes s)

@@ -60,7 +60,8 @@ module _ (p : Program) (mine f : Name) where
       subst (λ (n : Name). IsSome (if nat_eq n.0 f.0 then Some (Number (pos 0)) else None)) e (rw (eq-eqb f.0 f.0 refl) refl)
   complete one (suc (suc n)) class name hc hk = absurd (cc)
 
-  pub one_typed : HasKindOf heap_of_one (field_kind p mine f) (Number (pos 0)) → HasOneField → IsWellTyped (field_kind p) heap_of_one
+  pub one_typed : HasKindOf heap_of_one (field_kind p mine f) (Number (pos 0)) → HasOneField
+      → IsWellTyped (field_kind p) heap_of_one
   one_typed fits one =
       record { fields = fields_typed fits; elements = λ array. inl (no_elements array); complete = complete one }
 

@@ -11,13 +11,14 @@ use Rattle.pv_ast.specs.declared.Each.{Each-F}
 use Rattle.pv_ast.specs.Rules.Expressions.{CheckedExpression, CheckedKind, checked_in_kind, checked_in_each, checked_in_expression}
 use Rattle.pv_ast.specs.Rules.Items.{Shape, KindShape, EachShape, shape_of, clause, shape_in_kind, shape_in_each, shape_in_expr}
 use Rattle.pv_ast.specs.Rules.Shapes.{quantifiers_in, faults_of_formula, faults_of_items}
-use Rattle.worked_threads_safety.proofs.Folds.{folded, number, null, this, var, field, perm, binary, token, own_instance, instance}
+use Rattle.worked_safety.proofs.Folds.{folded, number, null, this, var, field, old, perm, binary, token, own_instance, instance}
 
 pub data Tree : Type 0 where
   Number : Span → ℕ → Tree
   Null This : Span → Tree
   Var : Span → Word → Tree
   Field : Span → Tree → Word → Tree
+  Old : Span → Tree → Tree
   Perm : Span → Tree → ℕ → ℕ → Span → Tree
   Binary : Span → Operator → Tree → Tree → Tree
   Held : Span → Token → Tree → Tree
@@ -31,6 +32,7 @@ tree_of (Null p) = record { span = p; kind = k.Null }
 tree_of (This p) = record { span = p; kind = k.This }
 tree_of (Var p w) = record { span = p; kind = k.Var w }
 tree_of (Field p e w) = record { span = p; kind = k.Field (tree_of e) w }
+tree_of (Old p e) = record { span = p; kind = k.Old (tree_of e) }
 tree_of (Perm p e a b t) = record { span = p; kind = k.Perm (tree_of e) a b t }
 tree_of (Binary p o e g) = record { span = p; kind = k.Binary o (tree_of e) (tree_of g) }
 tree_of (Held p t e) = record { span = p; kind = k.Token t (tree_of e) }
@@ -47,6 +49,7 @@ module _ (K Q P : Type 0) (in_kind : ExprKind-F K Q P → K) (in_each : Each-F K
   given (This p) = at_node p ExprKind-F.This
   given (Var p w) = at_node p (ExprKind-F.Var w)
   given (Field p e w) = at_node p (ExprKind-F.Field (given e) w)
+  given (Old p e) = at_node p (ExprKind-F.Old (given e))
   given (Perm p e a b t) = at_node p (ExprKind-F.Perm (given e) a b t)
   given (Binary p o e g) = at_node p (ExprKind-F.Binary o (given e) (given g))
   given (Held p t e) = at_node p (ExprKind-F.Token t (given e))
@@ -60,6 +63,8 @@ module _ (K Q P : Type 0) (in_kind : ExprKind-F K Q P → K) (in_each : Each-F K
   agrees (Var p w) = var K Q P in_kind in_each in_expr p w
   agrees (Field p e w) =
       field K Q P in_kind in_each in_expr p (tree_of e) w ∙ ap (λ x. at_node p (ExprKind-F.Field x w)) (agrees e)
+  agrees (Old p e) =
+      old K Q P in_kind in_each in_expr p (tree_of e) ∙ ap (λ x. at_node p (ExprKind-F.Old x)) (agrees e)
   agrees (Perm p e a b t) =
       perm K Q P in_kind in_each in_expr p (tree_of e) a b t ∙ ap (λ x. at_node p (ExprKind-F.Perm x a b t)) (agrees e)
   agrees (Binary p o e g) =

@@ -52,6 +52,9 @@ module _ (K Q P : Type 0) (in_kind : ExprKind-F K Q P → K) (in_each : Each-F K
       ≡ step span (ExprKind-F.Field (folded e) w)
   field span e w = at_layer span (ExprKind-F.Field e w) _ (k.rolls-Field e w)
 
+  pub old : (span : Span) (e : Expr) → folded (record { span = span; kind = k.Old e }) ≡ step span (ExprKind-F.Old (folded e))
+  old span e = at_layer span (ExprKind-F.Old e) _ (k.rolls-Old e)
+
   pub perm : (span : Span) (e : Expr) (a b : ℕ) (t : Span)
       → folded (record { span = span; kind = k.Perm e a b t }) ≡ step span (ExprKind-F.Perm (folded e) a b t)
   perm span e a b t = at_layer span (ExprKind-F.Perm e a b t) _ (k.rolls-Perm e a b t)
