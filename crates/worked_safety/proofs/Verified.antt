@@ -16,22 +16,19 @@ use Rattle.worked_trees.proofs.Objects.{objects_become}
 use Rattle.worked_safety.specs.Verified.{CounterIsVerified, ChainIsVerified, CounterPasses, WritersAreNotVerified}
 use Rattle.machine_loops.proofs.Programs.{passed}
 use Rattle.soundness.proofs.Runs.{safe}
-use Rattle.worked_safety.proofs.Safely.{verified_as}
+use Rattle.worked_safety.proofs.Safely.{verified_as, never_fails}
 use Rattle.worked_safety.proofs.Formed.{counter_formed}
-use Rattle.worked_safety.proofs.Counter.{increments}
-use Rattle.worked_safety.proofs.Chain.{body_safe, up_safe}
+use Rattle.worked_safety.proofs.Counter.{unit, increments}
+use Rattle.worked_safety.proofs.Chain.{body, up, body_safe, up_safe}
 
 pub counter_verified : CounterIsVerified
 counter_verified =
-    verified_as trees.counter cores.counter objects_become.0
-    ((λ evidence check span. increments _ evidence.table evidence.picks check span), tt)
+    verified_as trees.counter cores.counter objects_become.0 (never_fails cores.counter unit increments, tt)
 
 pub chain_verified : ChainIsVerified
 chain_verified =
-    verified_as trees.chain cores.chain objects_become.7 (
-      (λ evidence check span. body_safe _ evidence.table evidence.picks check span),
-      ((λ evidence check span. up_safe _ evidence.table evidence.picks check span), tt),
-    )
+    verified_as trees.chain cores.chain objects_become.7
+    (never_fails cores.chain body body_safe, (never_fails cores.chain up up_safe, tt))
 
 pub writers_refused : WritersAreNotVerified
 writers_refused verified =

@@ -9,9 +9,7 @@ use Rattle.pv_ast.specs.declared.Token.TheVariants as token
 use Rattle.pv_fraction.specs.Amounts.{whole}
 use Rattle.pv_picks.specs.declared.check.Check.TheVariants as check
 use Rattle.pv_picks.specs.declared.evidence.Entry.{Entry}
-use Rattle.pv_picks.specs.declared.unit.Part.{Part}
 use Rattle.pv_picks.specs.declared.unit.Part.TheVariants as part
-use Rattle.pv_picks.specs.declared.unit.PvUnit.{PvUnit}
 use Rattle.pv_picks.specs.Plain.Core.{Block, Stop, Then, Act, Lock, Unlock, Fork, Assign, ToField, This, Variable, Value', Constant, Commit, NewObject, ToVariable}
 use Rattle.pv_picks.specs.Formulas.Values.{no_variables, reference_in}
 use Rattle.pv_picks.specs.Judge.Rows.{Site}
@@ -24,7 +22,7 @@ use Rattle.worked_programs.specs.Nodes.{name, at}
 use Rattle.worked_programs.specs.CoreNodes.{always}
 use Rattle.worked_programs.specs.CoreWitnesses.{handed}
 use Rattle.worked_safety.proofs.Safely.{Safe, blocks, finishes, picked, signed, tested, passed, failed, turned, same_self}
-use Rattle.worked_threads_safety.proofs.Rows.{gains, entered, remembered}
+use Rattle.worked_threads_safety.proofs.Rows.{unit, gains, entered, remembered}
 
 abbrev field : ℕ → Resource
 field n = InField (name 1) n (name 0)
@@ -34,9 +32,6 @@ locked n = OfLock (name 1) n
 
 abbrev held : Token → ℕ → Resource
 held token n = OfToken token (name 1) n
-
-abbrev unit : ℕ → Part → PvUnit
-unit class p = record { class = class; part = p }
 
 -- the state in which the thread begins
 abbrev begun : ℕ → State

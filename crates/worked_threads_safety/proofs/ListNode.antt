@@ -10,7 +10,6 @@ use Rattle.pv_fraction.specs.Amounts.{whole}
 use Rattle.pv_picks.specs.declared.check.Check.TheVariants as check
 use Rattle.pv_picks.specs.declared.evidence.Entry.{Entry}
 use Rattle.pv_picks.specs.declared.unit.Part.TheVariants as part
-use Rattle.pv_picks.specs.declared.unit.PvUnit.{PvUnit}
 use Rattle.pv_picks.specs.Plain.Core.{Expression, This, Variable, Field, Equal, Constant, Compute, Plain, Plus, Formula, Instance, Block, Stop, Then, Fold, Unfold, If, Assign, ToVariable, NewObject, Nowhere, ToField, Value', Call}
 use Rattle.pv_picks.specs.Formulas.Values.{no_variables, reference_in}
 use Rattle.pv_picks.specs.Plain.Members.{predicate_named, method_named}
@@ -24,16 +23,13 @@ use Rattle.worked_programs.specs.Nodes.{name, at}
 use Rattle.worked_programs.specs.CoreNodes.{always}
 use Rattle.worked_programs.specs.CoreWitnesses.{list}
 use Rattle.worked_safety.proofs.Safely.{Safe, blocks, finishes, picked, signed, tested, passed, failed, turned, same_self}
-use Rattle.worked_threads_safety.proofs.Rows.{entered, remembered, gains, gains_reference, reads, takes, unless}
+use Rattle.worked_threads_safety.proofs.Rows.{unit, entered, remembered, gains, gains_reference, reads, takes, unless}
 
 abbrev number_in : ℕ → Resource
 number_in n = InField (name 0) n (name 1)
 
 abbrev next_in : ℕ → Resource
 next_in n = InField (name 0) n (name 2)
-
-abbrev unit : ℕ → ℕ → PvUnit
-unit class place = record { class = class; part = part.Member place }
 
 abbrev folded : ℕ → Folded
 folded n = record { class = name 0; predicate = name 3; object = n; arguments = [] }
@@ -190,15 +186,15 @@ module _ (maps : Maps) (table : List Entry) where
         rest = rw (none) refl;
       }))))
 
-  pub up_safe : Safe (judge_task S list (task_of list (unit 0 3)))
+  pub up_safe : Safe (judge_task S list (task_of list (unit 0 (part.Member 3))))
   up_safe =
       picked (signed _ (λ n. blocks) λ n. tested (nat_eq n 0) _ _ (λ e. blocks) λ e.
       turned _ (λ m. blocks) finishes
       (unfolds (remembered (with_instances (entered (name 0) n) (folded n ∷ [])))
       (record { there = e; none = λ r. refl; node = refl })))
 
-  pub body_safe : Safe (judge_task S list (task_of list (unit 0 2)))
-  body_safe =
+  pub list_safe : Safe (judge_task S list (task_of list (unit 0 (part.Member 2))))
+  list_safe =
       picked (signed _ (λ n. blocks) λ n. tested (nat_eq n 0) _ _ (λ e. blocks) λ e. picked λ z.
       gains_reference maps table (name 0) n (name 2) (name 0) _
       (with_number z (entered (name 0) n)) e (rw (same_self n) refl) λ m.
@@ -269,8 +265,8 @@ module _ (maps : Maps) (table : List Entry) where
       (value.Reference 0))
       x (value.Reference n)
 
-  pub main_safe : Safe (judge_task S list (task_of list (unit 1 0)))
-  main_safe =
+  pub two_safe : Safe (judge_task S list (task_of list (unit 1 (part.Member 0))))
+  two_safe =
       picked (signed _ (λ t. blocks) λ t. tested (nat_eq t 0) _ _ (λ e. blocks) λ e.
       turned _ (λ m. blocks) finishes
       (picked (signed _ (λ m. blocks) λ m. tested (nat_eq m 0) _ _ (λ f. blocks) λ f.

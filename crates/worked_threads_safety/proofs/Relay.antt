@@ -8,7 +8,6 @@ use Rattle.pv_fraction.specs.Amounts.{whole}
 use Rattle.pv_picks.specs.declared.check.Check.TheVariants as check
 use Rattle.pv_picks.specs.declared.evidence.Entry.{Entry}
 use Rattle.pv_picks.specs.declared.unit.Part.TheVariants as part
-use Rattle.pv_picks.specs.declared.unit.PvUnit.{PvUnit}
 use Rattle.pv_picks.specs.Plain.Core.{Constant, This, Variable, Equal, FieldPermission, ToField, Value', Assign, If, When, Fixed, Join, NoItems, Meet, Barrier, Block, Stop, Then}
 use Rattle.pv_picks.specs.Formulas.Values.{no_variables, at_position, within}
 use Rattle.pv_picks.specs.Judge.Rows.{Site}
@@ -21,13 +20,10 @@ use Rattle.worked_programs.specs.Nodes.{name, at}
 use Rattle.worked_programs.specs.CoreNodes.{always, contract, shared, barrier}
 use Rattle.worked_programs.specs.CoreWitnesses.{relay}
 use Rattle.worked_safety.proofs.Safely.{Safe, blocks, finishes, picked, signed, tested, goes, passed, failed, turned, same_self}
-use Rattle.worked_threads_safety.proofs.Rows.{entered, remembered, gains, positions}
+use Rattle.worked_threads_safety.proofs.Rows.{unit, entered, remembered, gains, positions}
 
 abbrev field : ℕ → Resource
 field n = InField (name 0) n (name 1)
-
-abbrev unit : PvUnit
-unit = record { class = 0; part = part.Member 1 }
 
 module _ (maps : Maps) (table : List Entry) where
   abbrev S : Setting Judged
@@ -126,7 +122,7 @@ module _ (maps : Maps) (table : List Entry) where
   abbrev less : ℕ → ℤ → State
   less n z = with_amount (begun n z) (field n) (amount_of (begun n z) (field n) - whole)
 
-  pub relay_safe : Safe (judge_task S relay (task_of relay unit))
+  pub relay_safe : Safe (judge_task S relay (task_of relay (unit 0 (part.Member 1))))
   relay_safe =
       picked (signed _ (λ n. blocks) λ n. tested (nat_eq n 0) _ _ (λ e. blocks) λ e.
       failed (nat_eq n 0) _ _ e (picked λ z.

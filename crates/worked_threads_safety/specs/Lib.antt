@@ -1,3 +1,3 @@
 pub mod Verified
-pub mod Wrong
 pub mod Runs
+pub mod Wrong
