@@ -1,9 +1,9 @@
 -- What worked programs become, written out. checks/meaning.py works this file out from the texts, apart from the definitions.
-use Rattle.std.specs.Prelude.{pos, negsuc, true, false, Some, None, [], ◌∷◌}
+use Rattle.std.specs.Prelude.{pos, true, false, Some, None, [], ◌∷◌}
 use Rattle.pv_ast.specs.declared.PvType.TheVariants as type
 use Rattle.pv_ast.specs.declared.Token.TheVariants as token
 use Rattle.pv_values.specs.declared.value.Value.TheVariants as value
-use Rattle.pv_picks.specs.Plain.Core.{Plus, Minus, Times, Plain, Tabled, Less, AtMost, Greater, AtLeast, Constant, This, Result, Variable, Field, Element, Length, Not, Compute, Compare, Equal, And, Or, Implies, Old, Below, UpTo, Above, From, Provided, Fact, FieldPermission, ElementPermission, Holds, Instance, Star, When, Each, NoItems, Join, Elements, Repeated, Committed, Guarded, Fixed, Fork, Join', Lock, Unlock, Commit, Nowhere, ToVariable, ToField, ToElement, Value', Call, NewObject, NewArray, Assign, If, While, Members, Meet, Act, Fold, Unfold, Assert, Send, Receive, Return, Stop, Then, IsField, IsPredicate, IsMethod, Class, Program}
+use Rattle.pv_picks.specs.Plain.Core.{Plus, Plain, Constant, This, Variable, Field, Compute, Equal, FieldPermission, Holds, Instance, Star, When, NoItems, Join, Fixed, Fork, Lock, Unlock, Commit, Nowhere, ToVariable, ToField, Value', Call, NewObject, Assign, If, Members, Meet, Act, Fold, Unfold, Send, Receive, Stop, Then, IsField, IsPredicate, IsMethod, Class, Program}
 use Rattle.worked_programs.specs.Nodes.{name, at}
 use Rattle.worked_programs.specs.CoreNodes.{always, contract, shared, team, barrier, message, predicate, method, class}
 

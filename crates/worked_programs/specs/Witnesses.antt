@@ -1,5 +1,5 @@
 -- Worked programs as trees, each below its text. checks/trees.py writes this file from the texts.
-use Rattle.std.specs.Prelude.{true, false, Some, None, [], ◌∷◌}
+use Rattle.std.specs.Prelude.{Some, None, [], ◌∷◌}
 use Rattle.pv_ast.specs.declared.Class.{Class}
 use Rattle.pv_ast.specs.declared.Program.{Program}
 use Rattle.pv_ast.specs.declared.ExprKind.TheVariants as k
@@ -10,7 +10,7 @@ use Rattle.pv_ast.specs.declared.ClauseKind.TheVariants as c
 use Rattle.pv_ast.specs.declared.PvType.TheVariants as type
 use Rattle.pv_ast.specs.declared.Operator.TheVariants as op
 use Rattle.pv_ast.specs.declared.Token.TheVariants as token
-use Rattle.worked_programs.specs.Nodes.{name, at, word, node, each, type_at, right, clause, contract, range, stmt, param, predicate, method, run, class}
+use Rattle.worked_programs.specs.Nodes.{name, at, word, node, type_at, right, clause, contract, range, stmt, param, predicate, method, run, class}
 
 --   lock_invariant Perm(v, write);
 --   class Cell {

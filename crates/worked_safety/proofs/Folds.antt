@@ -1,5 +1,5 @@
 -- What a fold gives at each node of a tree, over what it gives at the parts.
-use Rattle.std.proofs.Common.{◌≡◌, ℕ, sym, ◌∙◌, ap, Option, Some, None, List, []}
+use Rattle.std.proofs.Common.{◌≡◌, ℕ, sym, ◌∙◌, ap, Option, Some, None, List}
 use Rattle.std.specs.Prelude.{map}
 use Rattle.pv_base.specs.declared.Span.{Span}
 use Rattle.pv_ast.specs.declared.Word.{Word}

@@ -1,5 +1,5 @@
 -- Trees that compute: what a fold gives at the tree of each.
-use Rattle.std.proofs.Common.{◌≡◌, ℕ, ◌∙◌, ap, Some, None, List, []}
+use Rattle.std.proofs.Common.{◌≡◌, ℕ, ◌∙◌, ap, Some, None, []}
 use Rattle.pv_base.specs.declared.Span.{Span}
 use Rattle.pv_ast.specs.declared.Word.{Word}
 use Rattle.pv_ast.specs.declared.Token.{Token}

@@ -1,13 +1,9 @@
 -- No evidence makes the judge fail on any unit of the counter, nor of the program that folds a predicate; on a writer some does.
-use Rattle.std.proofs.Common.{◌≡◌, pos, [], ◌∷◌, refl, sym, subst}
+use Rattle.std.proofs.Common.{pos, [], ◌∷◌, refl, subst}
 use Rattle.std.specs.List.{AllByRecursion}
-use Rattle.pv_ast.specs.declared.Program.{Program}
 use Rattle.pv_picks.specs.declared.check.Check.TheVariants as check
 use Rattle.pv_picks.specs.declared.evidence.Pick.TheVariants.{Number, Turn}
-use Rattle.pv_picks.specs.Plain.Core as core
 use Rattle.pv_picks.specs.Verdicts.Grounds.{NeverFails}
-use Rattle.pv_picks.specs.Elaborating.Programs.{core_of}
-use Rattle.pv_picks.specs.Verdicts.Theorems.{IsVerified}
 use Rattle.pv_picks.specs.Verdicts.Units.{units_of}
 use Rattle.worked_programs.specs.Objects as trees
 use Rattle.worked_programs.specs.CoreObjects as cores

@@ -1,6 +1,6 @@
 -- A lock that one thread hands to another: whatever is picked, the judge fails on no unit.
-use Rattle.std.proofs.Common.{◌≡◌, ℕ, ℤ, pos, Bool, true, false, None, List, refl}
-use Rattle.std.specs.Prelude.{◌-◌, nat_eq, nat_le, Option}
+use Rattle.std.proofs.Common.{◌≡◌, ℕ, ℤ, pos, true, false, None, List, refl}
+use Rattle.std.specs.Prelude.{◌-◌, nat_eq, nat_le}
 use Rattle.pv_ast.specs.declared.PvType.TheVariants as type
 use Rattle.pv_values.specs.declared.value.Value.TheVariants as value
 use Rattle.pv_base.specs.declared.Span.{Span}
@@ -10,10 +10,10 @@ use Rattle.pv_fraction.specs.Amounts.{whole}
 use Rattle.pv_picks.specs.declared.check.Check.TheVariants as check
 use Rattle.pv_picks.specs.declared.evidence.Entry.{Entry}
 use Rattle.pv_picks.specs.declared.unit.Part.TheVariants as part
-use Rattle.pv_picks.specs.Plain.Core.{Block, Stop, Then, Act, Lock, Unlock, Fork, Assign, ToField, This, Variable, Value', Constant, Commit, NewObject, ToVariable}
+use Rattle.pv_picks.specs.Plain.Core.{Block, Stop, Then, Act, Lock, Unlock, Fork, Assign, ToField, This, Variable, Value', Constant, Commit}
 use Rattle.pv_picks.specs.Formulas.Values.{no_variables, reference_in}
 use Rattle.pv_picks.specs.Judge.Rows.{Site}
-use Rattle.pv_picks.specs.Judge.States.{State, Holding, Resource, InField, OfLock, OfToken, amount_of, with_cell, with_amount, with_value, with_committed, with_met, with_local}
+use Rattle.pv_picks.specs.Judge.States.{State, Resource, InField, OfLock, OfToken, amount_of, with_cell, with_amount, with_value, with_committed, with_met, with_local}
 use Rattle.pv_picks.specs.Judge.Settings.{Setting, Next}
 use Rattle.pv_picks.specs.Judge.Judging.{judge_block, judge_action, at_body_end}
 use Rattle.pv_picks.specs.Judge.Runs.{Maps, Judged, judging}
@@ -110,7 +110,7 @@ module _ (maps : Maps) (table : List Entry) where
   abbrev main_writes : Block
   main_writes = Then
       (Assign (ToField (Variable (name 4)) (name 1) (name 0) (at 234 237)) (Value' (Constant (value.Number (pos 2))))
-          (at 234 242))
+      (at 234 242))
       main_unlocks
 
   abbrev main_locks : Block
@@ -195,7 +195,7 @@ module _ (maps : Maps) (table : List Entry) where
       with_local
       (with_amount
       (with_amount (with_cell (with_met s (type.Object (name 1)) n) (field n) whole (value.Number (pos 0)))
-          (held token.Idle n) whole)
+      (held token.Idle n) whole)
       (held token.Uncommitted n) whole)
       (name 4) (value.Reference n)
 

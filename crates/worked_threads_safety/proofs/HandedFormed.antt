@@ -78,16 +78,52 @@ statement_247 = Unlock (at 247 256) node_254
 pub handed_formed : IsWellFormed handed
 handed_formed =
     formed handed
-    (rw (statement_checked statement_93, statement_checked statement_108, statement_checked statement_119,
-        statement_checked statement_171, statement_checked statement_196, statement_checked statement_210,
-        statement_checked statement_222, statement_checked statement_234, statement_checked statement_247, checked node_15,
-        checked node_64, checked node_98, checked node_108, checked node_112, checked node_126, checked node_203,
-        checked node_215, checked node_227, checked node_234, checked node_240, checked node_254)
-        (rw (checked node_98, checked node_126, checked node_203, checked node_215, checked node_227, checked node_254) refl))
-    (rw (statement_shaped statement_93, statement_shaped statement_108, statement_shaped statement_119,
-        statement_shaped statement_171, statement_shaped statement_196, statement_shaped statement_210,
-        statement_shaped statement_222, statement_shaped statement_234, statement_shaped statement_247, formula_shaped node_15,
-        formula_shaped node_64, shaped node_98, shaped node_108, shaped node_112, shaped node_126, shaped node_203,
-        shaped node_215, shaped node_227, shaped node_234, shaped node_240, shaped node_254) refl)
+    (rw (
+      statement_checked statement_93,
+      statement_checked statement_108,
+      statement_checked statement_119,
+      statement_checked statement_171,
+      statement_checked statement_196,
+      statement_checked statement_210,
+      statement_checked statement_222,
+      statement_checked statement_234,
+      statement_checked statement_247,
+      checked node_15,
+      checked node_64,
+      checked node_98,
+      checked node_108,
+      checked node_112,
+      checked node_126,
+      checked node_203,
+      checked node_215,
+      checked node_227,
+      checked node_234,
+      checked node_240,
+      checked node_254,
+    )
+    (rw (checked node_98, checked node_126, checked node_203, checked node_215, checked node_227, checked node_254) refl))
+    (rw (
+      statement_shaped statement_93,
+      statement_shaped statement_108,
+      statement_shaped statement_119,
+      statement_shaped statement_171,
+      statement_shaped statement_196,
+      statement_shaped statement_210,
+      statement_shaped statement_222,
+      statement_shaped statement_234,
+      statement_shaped statement_247,
+      formula_shaped node_15,
+      formula_shaped node_64,
+      shaped node_98,
+      shaped node_108,
+      shaped node_112,
+      shaped node_126,
+      shaped node_203,
+      shaped node_215,
+      shaped node_227,
+      shaped node_234,
+      shaped node_240,
+      shaped node_254,
+    ) refl)
     (simp (number, this, var, field, perm, token, local, assign, fork, lock, unlock, commit) refl)
     (simp (number, this, var, field, perm, token, local, assign, fork, lock, unlock, commit) refl)

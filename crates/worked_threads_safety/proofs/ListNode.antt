@@ -1,5 +1,5 @@
 -- A list that is gone through by a recursive predicate and a recursive method: whatever is picked, the judge fails on no unit.
-use Rattle.std.proofs.Common.{◌≡◌, ℕ, ℤ, pos, Bool, true, false, if◌then◌else◌, Option, Some, None, List, [], ◌∷◌, refl, ap}
+use Rattle.std.proofs.Common.{◌≡◌, ℕ, ℤ, pos, true, false, if◌then◌else◌, Option, Some, None, List, [], ◌∷◌, refl, ap}
 use Rattle.std.specs.Prelude.{◌-◌, ◌+ℤ◌, ◌++◌, nat_eq, nat_le}
 use Rattle.pv_base.specs.declared.Name.{Name}
 use Rattle.pv_base.specs.declared.Span.{Span}
@@ -10,7 +10,7 @@ use Rattle.pv_fraction.specs.Amounts.{whole}
 use Rattle.pv_picks.specs.declared.check.Check.TheVariants as check
 use Rattle.pv_picks.specs.declared.evidence.Entry.{Entry}
 use Rattle.pv_picks.specs.declared.unit.Part.TheVariants as part
-use Rattle.pv_picks.specs.Plain.Core.{Expression, This, Variable, Field, Equal, Constant, Compute, Plain, Plus, Formula, Instance, Block, Stop, Then, Fold, Unfold, If, Assign, ToVariable, NewObject, Nowhere, ToField, Value', Call}
+use Rattle.pv_picks.specs.Plain.Core.{This, Variable, Field, Equal, Constant, Compute, Plain, Plus, Instance, Block, Stop, Then, Fold, Unfold, If, Assign, ToVariable, NewObject, Nowhere, ToField, Value', Call}
 use Rattle.pv_picks.specs.Formulas.Values.{no_variables, reference_in}
 use Rattle.pv_picks.specs.Plain.Members.{predicate_named, method_named}
 use Rattle.pv_picks.specs.Judge.Rows.{Site, call}

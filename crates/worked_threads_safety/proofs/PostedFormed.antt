@@ -58,10 +58,33 @@ statement_69 = For (at 69 259) (range (word 3 78 79) (tree_of node_82) (tree_of 
 pub posted_formed : IsWellFormed posted
 posted_formed =
     formed posted
-    (rw (statement_checked statement_69, checked node_33, checked node_82, checked node_87, checked node_105, checked node_148,
-        checked node_158, checked node_162, checked node_184, checked node_235, checked node_245, checked node_249) refl)
-    (rw (statement_shaped statement_69, formula_shaped node_33, shaped node_82, shaped node_87, items_shaped 3 node_105,
-        shaped node_148, shaped node_158, shaped node_162, items_shaped 3 node_184, shaped node_235, shaped node_245,
-        shaped node_249) refl)
+    (rw (
+      statement_checked statement_69,
+      checked node_33,
+      checked node_82,
+      checked node_87,
+      checked node_105,
+      checked node_148,
+      checked node_158,
+      checked node_162,
+      checked node_184,
+      checked node_235,
+      checked node_245,
+      checked node_249,
+    ) refl)
+    (rw (
+      statement_shaped statement_69,
+      formula_shaped node_33,
+      shaped node_82,
+      shaped node_87,
+      items_shaped 3 node_105,
+      shaped node_148,
+      shaped node_158,
+      shaped node_162,
+      items_shaped 3 node_184,
+      shaped node_235,
+      shaped node_245,
+      shaped node_249,
+    ) refl)
     (simp (number, var, perm, binary, assign, branch, counted, send, recv) refl)
     (simp (number, var, perm, binary, assign, branch, counted, send, recv) refl)

@@ -62,11 +62,35 @@ statement_71 = Par (at 71 324) (Some (word 3 75 79)) (range (word 4 84 85) (tree
 pub relay_formed : IsWellFormed relay
 relay_formed =
     formed relay
-    (rw (statement_checked statement_71, checked node_34, checked node_88, checked node_93, checked node_111, checked node_154,
-        checked node_164, checked node_168, checked node_212, checked node_255, checked node_300, checked node_310,
-        checked node_314) refl)
-    (rw (statement_shaped statement_71, formula_shaped node_34, shaped node_88, shaped node_93, items_shaped 4 node_111,
-        shaped node_154, shaped node_164, shaped node_168, items_shaped 4 node_212, items_shaped 4 node_255, shaped node_300,
-        shaped node_310, shaped node_314) refl)
+    (rw (
+      statement_checked statement_71,
+      checked node_34,
+      checked node_88,
+      checked node_93,
+      checked node_111,
+      checked node_154,
+      checked node_164,
+      checked node_168,
+      checked node_212,
+      checked node_255,
+      checked node_300,
+      checked node_310,
+      checked node_314,
+    ) refl)
+    (rw (
+      statement_shaped statement_71,
+      formula_shaped node_34,
+      shaped node_88,
+      shaped node_93,
+      items_shaped 4 node_111,
+      shaped node_154,
+      shaped node_164,
+      shaped node_168,
+      items_shaped 4 node_212,
+      items_shaped 4 node_255,
+      shaped node_300,
+      shaped node_310,
+      shaped node_314,
+    ) refl)
     (simp (number, var, perm, binary, assign, branch, par, barrier) refl)
     (simp (number, var, perm, binary, assign, branch, par, barrier) refl)

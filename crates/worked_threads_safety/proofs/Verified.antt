@@ -21,8 +21,10 @@ pub handed_verified : HandedIsVerified
 handed_verified =
     verified_as trees.handed cores.handed witnesses_become.0 (
       never_fails cores.handed (unit 0 part.LockInvariant) invariant_safe,
-      (never_fails cores.handed (unit 0 (part.Member 1)) run_safe,
-      (never_fails cores.handed (unit 1 (part.Member 0)) main_safe, tt)),
+      (
+        never_fails cores.handed (unit 0 (part.Member 1)) run_safe,
+        (never_fails cores.handed (unit 1 (part.Member 0)) main_safe, tt),
+      ),
     )
 
 pub handed_passes : HandedPasses
