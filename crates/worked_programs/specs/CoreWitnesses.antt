@@ -1,9 +1,9 @@
 -- What worked programs become, written out. checks/meaning.py works this file out from the texts, apart from the definitions.
-use Rattle.std.specs.Prelude.{pos, negsuc, true, false, Some, None, [], ◌∷◌}
+use Rattle.std.specs.Prelude.{pos, true, false, Some, None, [], ◌∷◌}
 use Rattle.pv_ast.specs.declared.PvType.TheVariants as type
 use Rattle.pv_ast.specs.declared.Token.TheVariants as token
 use Rattle.pv_values.specs.declared.value.Value.TheVariants as value
-use Rattle.pv_picks.specs.Plain.Core.{Plus, Minus, Times, Plain, Tabled, Less, AtMost, Greater, AtLeast, Constant, This, Result, Variable, Field, Element, Length, Not, Compute, Compare, Equal, And, Or, Implies, Old, Below, UpTo, Above, From, Provided, Fact, FieldPermission, ElementPermission, Holds, Instance, Star, When, Each, NoItems, Join, Elements, Repeated, Committed, Guarded, Fixed, Fork, Join', Lock, Unlock, Commit, Nowhere, ToVariable, ToField, ToElement, Value', Call, NewObject, NewArray, Assign, If, While, Members, Meet, Act, Fold, Unfold, Assert, Send, Receive, Return, Stop, Then, IsField, IsPredicate, IsMethod, Class, Program}
+use Rattle.pv_picks.specs.Plain.Core.{Plus, Plain, Constant, This, Variable, Field, Compute, Equal, FieldPermission, Holds, Instance, Star, When, NoItems, Join, Fixed, Fork, Lock, Unlock, Commit, Nowhere, ToVariable, ToField, Value', Call, NewObject, Assign, If, Members, Meet, Act, Fold, Unfold, Send, Receive, Stop, Then, IsField, IsPredicate, IsMethod, Class, Program}
 use Rattle.worked_programs.specs.Nodes.{name, at}
 use Rattle.worked_programs.specs.CoreNodes.{always, contract, shared, team, barrier, message, predicate, method, class}
 
@@ -13,16 +13,21 @@ handed_cell = class (name 1) (Some (FieldPermission This (name 1) (name 0) type.
     (contract (Holds token.Committed (name 1) This (at 64 79)) always)
     (Then (Act Lock (name 1) This (at 93 103))
     (Then (Assign (ToField This (name 1) (name 0) (at 108 109)) (Value' (Constant (value.Number (pos 1)))) (at 108 114))
-    (Then (Act Unlock (name 1) This (at 119 131)) Stop))) false)
-    ∷ IsMethod (method (Some (name 2)) ([]) None
-    (contract (Star (Holds token.Committed (name 1) This (at 147 162)) (Holds token.Idle (name 1) This (at 166 176))) always)
-    (Then (Act Fork (name 1) This (at 198 208))
-    (Then (Act Lock (name 1) This (at 213 223))
-    (Then (Assign (ToField This (name 1) (name 0) (at 228 229)) (Value' (Constant (value.Number (pos 2)))) (at 228 234))
-    (Then (Act Unlock (name 1) This (at 239 251)) Stop)))) false) ∷ [])
+    (Then (Act Unlock (name 1) This (at 119 131)) Stop))) false) ∷ [])
+
+abbrev pub handed_main : Class
+handed_main =
+    class (name 2) None
+    (IsMethod (method (Some (name 3)) ([]) None (contract always always)
+    (Then (Assign (ToVariable (name 4)) (NewObject (name 1)) (at 171 191))
+    (Then (Act Commit (name 1) (Variable (name 4)) (at 196 205))
+    (Then (Act Fork (name 1) (Variable (name 4)) (at 210 217))
+    (Then (Act Lock (name 1) (Variable (name 4)) (at 222 229))
+    (Then (Assign (ToField (Variable (name 4)) (name 1) (name 0) (at 234 237)) (Value' (Constant (value.Number (pos 2))))
+    (at 234 242)) (Then (Act Unlock (name 1) (Variable (name 4)) (at 247 256)) Stop)))))) false) ∷ [])
 
 abbrev pub handed : Program
-handed = (handed_cell ∷ [])
+handed = (handed_cell ∷ handed_main ∷ [])
 
 abbrev pub relay_relay : Class
 relay_relay = class (name 0) None (IsField ((name 1), type.Int)
@@ -104,8 +109,19 @@ list_node = class (name 0) None (IsField ((name 1), type.Int) ∷ IsField ((name
     (Then (Assign Nowhere (Call (name 0) (name 4) (Field This (name 0) (name 2) (at 233 237)) ([])) (at 233 243)) Stop) Stop)
     (Then (Fold (name 0) (name 3) This ([]) (at 250 262)) Stop)))) false) ∷ [])
 
+abbrev pub list_main : Class
+list_main =
+    class (name 5) None
+    (IsMethod (method (Some (name 6)) ([]) None (contract always always)
+    (Then (Assign (ToVariable (name 7)) (NewObject (name 0)) (at 301 321))
+    (Then (Fold (name 0) (name 3) (Variable (name 7)) ([]) (at 326 340))
+    (Then (Assign (ToVariable (name 8)) (NewObject (name 0)) (at 345 365))
+    (Then (Assign (ToField (Variable (name 8)) (name 0) (name 2) (at 370 376)) (Value' (Variable (name 7))) (at 370 381))
+    (Then (Fold (name 0) (name 3) (Variable (name 8)) ([]) (at 386 400))
+    (Then (Assign Nowhere (Call (name 0) (name 4) (Variable (name 8)) ([])) (at 405 412)) Stop)))))) false) ∷ [])
+
 abbrev pub list : Program
-list = (list_node ∷ [])
+list = (list_node ∷ list_main ∷ [])
 
 abbrev pub members_race_race : Class
 members_race_race = class (name 0) None (IsField ((name 1), type.Int)

@@ -1,5 +1,5 @@
 -- Worked programs as trees, each below its text. checks/trees.py writes this file from the texts.
-use Rattle.std.specs.Prelude.{true, false, Some, None, [], ◌∷◌}
+use Rattle.std.specs.Prelude.{Some, None, [], ◌∷◌}
 use Rattle.pv_ast.specs.declared.Class.{Class}
 use Rattle.pv_ast.specs.declared.Program.{Program}
 use Rattle.pv_ast.specs.declared.ExprKind.TheVariants as k
@@ -10,7 +10,7 @@ use Rattle.pv_ast.specs.declared.ClauseKind.TheVariants as c
 use Rattle.pv_ast.specs.declared.PvType.TheVariants as type
 use Rattle.pv_ast.specs.declared.Operator.TheVariants as op
 use Rattle.pv_ast.specs.declared.Token.TheVariants as token
-use Rattle.worked_programs.specs.Nodes.{name, at, word, node, each, type_at, right, clause, contract, range, stmt, param, predicate, method, run, class}
+use Rattle.worked_programs.specs.Nodes.{name, at, word, node, type_at, right, clause, contract, range, stmt, param, predicate, method, run, class}
 
 --   lock_invariant Perm(v, write);
 --   class Cell {
@@ -21,34 +21,41 @@ use Rattle.worked_programs.specs.Nodes.{name, at, word, node, each, type_at, rig
 --       v = 1;
 --       unlock this;
 --     }
---     requires committed(this) ** idle(this);
+--   }
+--   class Main {
 --     void both() {
---       fork this;
---       lock this;
---       v = 2;
---       unlock this;
+--       Cell c = new Cell();
+--       commit c;
+--       fork c;
+--       lock c;
+--       c.v = 2;
+--       unlock c;
 --     }
 --   }
--- names: v 0, Cell 1, both 2
+-- names: v 0, Cell 1, Main 2, both 3, c 4
 abbrev pub handed_cell : Class
-handed_cell = class (at 0 257) (word 1 37 41) (Some (node 15 29 (k.Perm (node 20 21 (k.Var (word 0 20 21))) 1 1 (at 23 28))))
+handed_cell = class (at 0 137) (word 1 37 41) (Some (node 15 29 (k.Perm (node 20 21 (k.Var (word 0 20 21))) 1 1 (at 23 28))))
     (m.Field (param (word 0 50 51) (type_at 46 49 type.Int))
     ∷ m.Run
     (run (at 55 135) (at 83 86) (contract ((clause c.Requires (node 64 79 (k.Token token.Committed (node 74 78 k.This)))) ∷ []))
     ((stmt 93 103 (s.Lock (node 98 102 k.This)))
     ∷ (stmt 108 114 (s.Assign (node 108 109 (k.Var (word 0 108 109))) (right 112 113 (r.Value (node 112 113 (k.Number 1))))))
-    ∷ (stmt 119 131 (s.Unlock (node 126 130 k.This))) ∷ []))
-    ∷ m.Method (method (at 138 255) (word 2 185 189) None []
-    (contract
-    ((clause c.Requires
-    (node 147 176 (k.Binary op.Star (node 147 162 (k.Token token.Committed (node 157 161 k.This)))
-    (node 166 176 (k.Token token.Idle (node 171 175 k.This)))))) ∷ []))
-    ((stmt 198 208 (s.Fork (node 203 207 k.This))) ∷ (stmt 213 223 (s.Lock (node 218 222 k.This)))
-    ∷ (stmt 228 234 (s.Assign (node 228 229 (k.Var (word 0 228 229))) (right 232 233 (r.Value (node 232 233 (k.Number 2))))))
-    ∷ (stmt 239 251 (s.Unlock (node 246 250 k.This))) ∷ [])) ∷ [])
+    ∷ (stmt 119 131 (s.Unlock (node 126 130 k.This))) ∷ [])) ∷ [])
+
+abbrev pub handed_main : Class
+handed_main = class (at 138 262) (word 2 144 148) None
+    (m.Method (method (at 153 260) (word 3 158 162) None [] (contract [])
+    ((stmt 171 191 (s.Local (type_at 171 175 (type.Object (name 1))) (word 4 176 177)
+    (Some (right 180 190 (r.NewObject (word 1 184 188)))))) ∷ (stmt 196 205 (s.Commit (node 203 204 (k.Var (word 4 203 204)))))
+    ∷ (stmt 210 217 (s.Fork (node 215 216 (k.Var (word 4 215 216)))))
+    ∷ (stmt 222 229 (s.Lock (node 227 228 (k.Var (word 4 227 228)))))
+    ∷
+    (stmt 234 242 (s.Assign (node 234 237 (k.Field (node 234 235 (k.Var (word 4 234 235))) (word 0 236 237)))
+    (right 240 241 (r.Value (node 240 241 (k.Number 2)))))) ∷ (stmt 247 256 (s.Unlock (node 254 255 (k.Var (word 4 254 255)))))
+    ∷ [])) ∷ [])
 
 abbrev pub handed : Program
-handed = record { classes = (handed_cell ∷ []); length = None }
+handed = record { classes = (handed_cell ∷ handed_main ∷ []); length = None }
 
 --   class Relay {
 --     int v;
@@ -158,7 +165,17 @@ posted = record { classes = (posted_post ∷ []); length = None }
 --       fold list();
 --     }
 --   }
--- names: Node 0, v 1, next 2, list 3, up 4
+--   class Main {
+--     void two() {
+--       Node m = new Node();
+--       fold m.list();
+--       Node n = new Node();
+--       n.next = m;
+--       fold n.list();
+--       n.up();
+--     }
+--   }
+-- names: Node 0, v 1, next 2, list 3, up 4, Main 5, two 6, m 7, n 8
 abbrev pub list_node : Class
 list_node = class (at 0 268) (word 0 6 10) None
     (m.Field (param (word 1 19 20) (type_at 15 18 type.Int))
@@ -183,8 +200,23 @@ list_node = class (at 0 268) (word 0 6 10) None
     ((stmt 233 243 (s.Call (Some (node 233 237 (k.Var (word 2 233 237)))) (word 4 238 240) [])) ∷ []) []))
     ∷ (stmt 250 262 (s.Fold None (word 3 255 259) [])) ∷ [])) ∷ [])
 
+abbrev pub list_main : Class
+list_main = class (at 269 418) (word 5 275 279) None
+    (m.Method (method (at 284 416) (word 6 289 292) None [] (contract [])
+    ((stmt 301 321 (s.Local (type_at 301 305 (type.Object (name 0))) (word 7 306 307)
+    (Some (right 310 320 (r.NewObject (word 0 314 318))))))
+    ∷ (stmt 326 340 (s.Fold (Some (node 331 332 (k.Var (word 7 331 332)))) (word 3 333 337) []))
+    ∷
+    (stmt 345 365 (s.Local (type_at 345 349 (type.Object (name 0))) (word 8 350 351)
+    (Some (right 354 364 (r.NewObject (word 0 358 362))))))
+    ∷
+    (stmt 370 381 (s.Assign (node 370 376 (k.Field (node 370 371 (k.Var (word 8 370 371))) (word 2 372 376)))
+    (right 379 380 (r.Value (node 379 380 (k.Var (word 7 379 380)))))))
+    ∷ (stmt 386 400 (s.Fold (Some (node 391 392 (k.Var (word 8 391 392)))) (word 3 393 397) []))
+    ∷ (stmt 405 412 (s.Call (Some (node 405 406 (k.Var (word 8 405 406)))) (word 4 407 409) [])) ∷ [])) ∷ [])
+
 abbrev pub list : Program
-list = record { classes = (list_node ∷ []); length = None }
+list = record { classes = (list_node ∷ list_main ∷ []); length = None }
 
 --   class Race {
 --     int v;

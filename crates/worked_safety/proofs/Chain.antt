@@ -10,10 +10,10 @@ use Rattle.pv_picks.specs.declared.unit.PvUnit.{PvUnit}
 use Rattle.worked_programs.specs.CoreObjects.{chain}
 use Rattle.worked_safety.proofs.Safely.{Safe, blocks, finishes, picked, signed, tested, goes, passed, failed, turned, same_self, numbers_same}
 
-abbrev body : PvUnit
+abbrev pub body : PvUnit
 body = record { class = 0; part = part.Member 1 }
 
-abbrev up : PvUnit
+abbrev pub up : PvUnit
 up = record { class = 0; part = part.Member 2 }
 
 pub body_safe : (maps : Maps) (table : List Entry) → Safe (judge_task (judging maps table) chain (task_of chain body))

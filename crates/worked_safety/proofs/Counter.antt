@@ -10,7 +10,7 @@ use Rattle.pv_picks.specs.declared.unit.PvUnit.{PvUnit}
 use Rattle.worked_programs.specs.CoreObjects.{counter}
 use Rattle.worked_safety.proofs.Safely.{Safe, blocks, finishes, picked, signed, tested, failed, turned, same_self, number_self}
 
-abbrev unit : PvUnit
+abbrev pub unit : PvUnit
 unit = record { class = 0; part = part.Member 1 }
 
 pub increments : (maps : Maps) (table : List Entry) → Safe (judge_task (judging maps table) counter (task_of counter unit))

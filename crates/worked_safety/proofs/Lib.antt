@@ -1,5 +1,8 @@
 pub mod Safely
-pub mod Folding
+pub mod Folds
+pub mod Trees
+pub mod Pieces
+pub mod Forming
 mod Formed
 mod Counter
 mod Chain

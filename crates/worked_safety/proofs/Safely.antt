@@ -14,7 +14,10 @@ use Rattle.pv_picks.specs.Elaborating.Programs.{core_of}
 use Rattle.pv_picks.specs.Verdicts.Grounds.{NeverFails}
 use Rattle.pv_picks.specs.Verdicts.Theorems.{IsVerified}
 use Rattle.pv_picks.specs.Verdicts.Units.{units_of}
-use Rattle.pv_picks.specs.Judge.Runs.{Judged, End, Finished, Blocked, Failed, pick_number, pick_turn}
+use Rattle.pv_picks.specs.Judge.UnitRuns.{judge_task, task_of}
+use Rattle.pv_picks.specs.declared.evidence.Entry.{Entry}
+use Rattle.pv_picks.specs.declared.unit.PvUnit.{PvUnit}
+use Rattle.pv_picks.specs.Judge.Runs.{Maps, maps_of, judging, Judged, End, Finished, Blocked, Failed, pick_number, pick_turn}
 
 abbrev pub Ends : End → Type 0
 Ends e = (check : Check) (span : Span) → e ≡ Failed check span → ⊥
@@ -81,3 +84,8 @@ numbers_same a b h = search (rules, ints)
 -- what a program becomes was worked out
 pub verified_as : (p : Program) (c : core.Program) → core_of p ≡ c → AllByRecursion (NeverFails c) (units_of p) → IsVerified p
 verified_as p c is all = subst (λ c. AllByRecursion (NeverFails c) (units_of p)) (sym is) all
+
+-- no evidence fails where no picks do, under any maps of picks for ranges and any table
+pub never_fails : (p : core.Program) (unit : PvUnit)
+    → ((maps : Maps) (table : List Entry) → Safe (judge_task (judging maps table) p (task_of p unit))) → NeverFails p unit
+never_fails p unit h evidence check span = h (maps_of evidence.picks) evidence.table evidence.picks check span

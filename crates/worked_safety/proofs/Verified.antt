@@ -1,13 +1,9 @@
 -- No evidence makes the judge fail on any unit of the counter, nor of the program that folds a predicate; on a writer some does.
-use Rattle.std.proofs.Common.{◌≡◌, pos, [], ◌∷◌, refl, sym, subst}
+use Rattle.std.proofs.Common.{pos, [], ◌∷◌, refl, subst}
 use Rattle.std.specs.List.{AllByRecursion}
-use Rattle.pv_ast.specs.declared.Program.{Program}
 use Rattle.pv_picks.specs.declared.check.Check.TheVariants as check
 use Rattle.pv_picks.specs.declared.evidence.Pick.TheVariants.{Number, Turn}
-use Rattle.pv_picks.specs.Plain.Core as core
 use Rattle.pv_picks.specs.Verdicts.Grounds.{NeverFails}
-use Rattle.pv_picks.specs.Elaborating.Programs.{core_of}
-use Rattle.pv_picks.specs.Verdicts.Theorems.{IsVerified}
 use Rattle.pv_picks.specs.Verdicts.Units.{units_of}
 use Rattle.worked_programs.specs.Objects as trees
 use Rattle.worked_programs.specs.CoreObjects as cores
@@ -16,22 +12,19 @@ use Rattle.worked_trees.proofs.Objects.{objects_become}
 use Rattle.worked_safety.specs.Verified.{CounterIsVerified, ChainIsVerified, CounterPasses, WritersAreNotVerified}
 use Rattle.machine_loops.proofs.Programs.{passed}
 use Rattle.soundness.proofs.Runs.{safe}
-use Rattle.worked_safety.proofs.Safely.{verified_as}
-use Rattle.worked_safety.proofs.Formed.{well_formed}
-use Rattle.worked_safety.proofs.Counter.{increments}
-use Rattle.worked_safety.proofs.Chain.{body_safe, up_safe}
+use Rattle.worked_safety.proofs.Safely.{verified_as, never_fails}
+use Rattle.worked_safety.proofs.Formed.{counter_formed}
+use Rattle.worked_safety.proofs.Counter.{unit, increments}
+use Rattle.worked_safety.proofs.Chain.{body, up, body_safe, up_safe}
 
 pub counter_verified : CounterIsVerified
 counter_verified =
-    verified_as trees.counter cores.counter objects_become.0
-    ((λ evidence check span. increments _ evidence.table evidence.picks check span), tt)
+    verified_as trees.counter cores.counter objects_become.0 (never_fails cores.counter unit increments, tt)
 
 pub chain_verified : ChainIsVerified
 chain_verified =
-    verified_as trees.chain cores.chain objects_become.7 (
-      (λ evidence check span. body_safe _ evidence.table evidence.picks check span),
-      ((λ evidence check span. up_safe _ evidence.table evidence.picks check span), tt),
-    )
+    verified_as trees.chain cores.chain objects_become.7
+    (never_fails cores.chain body body_safe, (never_fails cores.chain up up_safe, tt))
 
 pub writers_refused : WritersAreNotVerified
 writers_refused verified =
@@ -41,4 +34,4 @@ writers_refused verified =
 
 -- so soundness speaks of it
 pub counter_passes : CounterPasses
-counter_passes = passed safe trees.counter well_formed counter_verified
+counter_passes = passed safe trees.counter counter_formed counter_verified

@@ -1,7 +1,7 @@
 -- The tokens of worked programs. checks/tokens.py writes this file from the texts.
 use Rattle.std.specs.Prelude.{List, [], ◌∷◌}
 use Rattle.pv_tokens.specs.declared.Lexeme.{Lexeme}
-use Rattle.pv_tokens.specs.declared.fixed.TheConstants.{CLASS, INT, VOID, RESOURCE, REQUIRES, ENSURES, LOCK_INVARIANT, IF, FOR, PAR, BARRIER, FORK, LOCK, UNLOCK, FOLD, UNFOLD, SEND, RECV, NULL, THIS, PERM, WRITE, IDLE, COMMITTED, RUN, IMPLIES, STAR_STAR, EQUAL, NOT_EQUAL, DOTS, OPEN_BRACE, CLOSE_BRACE, OPEN_PAREN, CLOSE_PAREN, SEMICOLON, COLON, COMMA, DOT, ASSIGN, PLUS}
+use Rattle.pv_tokens.specs.declared.fixed.TheConstants.{CLASS, INT, VOID, RESOURCE, REQUIRES, ENSURES, LOCK_INVARIANT, IF, FOR, PAR, BARRIER, FORK, LOCK, UNLOCK, COMMIT, FOLD, UNFOLD, SEND, RECV, NEW, NULL, THIS, PERM, WRITE, COMMITTED, RUN, IMPLIES, STAR_STAR, EQUAL, NOT_EQUAL, DOTS, OPEN_BRACE, CLOSE_BRACE, OPEN_PAREN, CLOSE_PAREN, SEMICOLON, COLON, COMMA, DOT, ASSIGN, PLUS}
 use Rattle.worked_texts.specs.Tokens.{named, number, fixed}
 
 abbrev pub handed : List Lexeme
@@ -12,13 +12,14 @@ handed =
     ∷ fixed OPEN_PAREN 73 74 ∷ fixed THIS 74 78 ∷ fixed CLOSE_PAREN 78 79 ∷ fixed SEMICOLON 79 80 ∷ fixed RUN 83 86
     ∷ fixed OPEN_BRACE 87 88 ∷ fixed LOCK 93 97 ∷ fixed THIS 98 102 ∷ fixed SEMICOLON 102 103 ∷ named 0 108 109
     ∷ fixed ASSIGN 110 111 ∷ number 1 112 113 ∷ fixed SEMICOLON 113 114 ∷ fixed UNLOCK 119 125 ∷ fixed THIS 126 130
-    ∷ fixed SEMICOLON 130 131 ∷ fixed CLOSE_BRACE 134 135 ∷ fixed REQUIRES 138 146 ∷ fixed COMMITTED 147 156
-    ∷ fixed OPEN_PAREN 156 157 ∷ fixed THIS 157 161 ∷ fixed CLOSE_PAREN 161 162 ∷ fixed STAR_STAR 163 165 ∷ fixed IDLE 166 170
-    ∷ fixed OPEN_PAREN 170 171 ∷ fixed THIS 171 175 ∷ fixed CLOSE_PAREN 175 176 ∷ fixed SEMICOLON 176 177 ∷ fixed VOID 180 184
-    ∷ named 2 185 189 ∷ fixed OPEN_PAREN 189 190 ∷ fixed CLOSE_PAREN 190 191 ∷ fixed OPEN_BRACE 192 193 ∷ fixed FORK 198 202
-    ∷ fixed THIS 203 207 ∷ fixed SEMICOLON 207 208 ∷ fixed LOCK 213 217 ∷ fixed THIS 218 222 ∷ fixed SEMICOLON 222 223
-    ∷ named 0 228 229 ∷ fixed ASSIGN 230 231 ∷ number 2 232 233 ∷ fixed SEMICOLON 233 234 ∷ fixed UNLOCK 239 245
-    ∷ fixed THIS 246 250 ∷ fixed SEMICOLON 250 251 ∷ fixed CLOSE_BRACE 254 255 ∷ fixed CLOSE_BRACE 256 257 ∷ []
+    ∷ fixed SEMICOLON 130 131 ∷ fixed CLOSE_BRACE 134 135 ∷ fixed CLOSE_BRACE 136 137 ∷ fixed CLASS 138 143 ∷ named 2 144 148
+    ∷ fixed OPEN_BRACE 149 150 ∷ fixed VOID 153 157 ∷ named 3 158 162 ∷ fixed OPEN_PAREN 162 163 ∷ fixed CLOSE_PAREN 163 164
+    ∷ fixed OPEN_BRACE 165 166 ∷ named 1 171 175 ∷ named 4 176 177 ∷ fixed ASSIGN 178 179 ∷ fixed NEW 180 183 ∷ named 1 184 188
+    ∷ fixed OPEN_PAREN 188 189 ∷ fixed CLOSE_PAREN 189 190 ∷ fixed SEMICOLON 190 191 ∷ fixed COMMIT 196 202 ∷ named 4 203 204
+    ∷ fixed SEMICOLON 204 205 ∷ fixed FORK 210 214 ∷ named 4 215 216 ∷ fixed SEMICOLON 216 217 ∷ fixed LOCK 222 226
+    ∷ named 4 227 228 ∷ fixed SEMICOLON 228 229 ∷ named 4 234 235 ∷ fixed DOT 235 236 ∷ named 0 236 237 ∷ fixed ASSIGN 238 239
+    ∷ number 2 240 241 ∷ fixed SEMICOLON 241 242 ∷ fixed UNLOCK 247 253 ∷ named 4 254 255 ∷ fixed SEMICOLON 255 256
+    ∷ fixed CLOSE_BRACE 259 260 ∷ fixed CLOSE_BRACE 261 262 ∷ []
 
 abbrev pub relay : List Lexeme
 relay =
@@ -81,7 +82,18 @@ list =
     ∷ named 2 217 221 ∷ fixed NOT_EQUAL 222 224 ∷ fixed NULL 225 229 ∷ fixed CLOSE_PAREN 229 230 ∷ fixed OPEN_BRACE 231 232
     ∷ named 2 233 237 ∷ fixed DOT 237 238 ∷ named 4 238 240 ∷ fixed OPEN_PAREN 240 241 ∷ fixed CLOSE_PAREN 241 242
     ∷ fixed SEMICOLON 242 243 ∷ fixed CLOSE_BRACE 244 245 ∷ fixed FOLD 250 254 ∷ named 3 255 259 ∷ fixed OPEN_PAREN 259 260
-    ∷ fixed CLOSE_PAREN 260 261 ∷ fixed SEMICOLON 261 262 ∷ fixed CLOSE_BRACE 265 266 ∷ fixed CLOSE_BRACE 267 268 ∷ []
+    ∷ fixed CLOSE_PAREN 260 261 ∷ fixed SEMICOLON 261 262 ∷ fixed CLOSE_BRACE 265 266 ∷ fixed CLOSE_BRACE 267 268
+    ∷ fixed CLASS 269 274 ∷ named 5 275 279 ∷ fixed OPEN_BRACE 280 281 ∷ fixed VOID 284 288 ∷ named 6 289 292
+    ∷ fixed OPEN_PAREN 292 293 ∷ fixed CLOSE_PAREN 293 294 ∷ fixed OPEN_BRACE 295 296 ∷ named 0 301 305 ∷ named 7 306 307
+    ∷ fixed ASSIGN 308 309 ∷ fixed NEW 310 313 ∷ named 0 314 318 ∷ fixed OPEN_PAREN 318 319 ∷ fixed CLOSE_PAREN 319 320
+    ∷ fixed SEMICOLON 320 321 ∷ fixed FOLD 326 330 ∷ named 7 331 332 ∷ fixed DOT 332 333 ∷ named 3 333 337
+    ∷ fixed OPEN_PAREN 337 338 ∷ fixed CLOSE_PAREN 338 339 ∷ fixed SEMICOLON 339 340 ∷ named 0 345 349 ∷ named 8 350 351
+    ∷ fixed ASSIGN 352 353 ∷ fixed NEW 354 357 ∷ named 0 358 362 ∷ fixed OPEN_PAREN 362 363 ∷ fixed CLOSE_PAREN 363 364
+    ∷ fixed SEMICOLON 364 365 ∷ named 8 370 371 ∷ fixed DOT 371 372 ∷ named 2 372 376 ∷ fixed ASSIGN 377 378 ∷ named 7 379 380
+    ∷ fixed SEMICOLON 380 381 ∷ fixed FOLD 386 390 ∷ named 8 391 392 ∷ fixed DOT 392 393 ∷ named 3 393 397
+    ∷ fixed OPEN_PAREN 397 398 ∷ fixed CLOSE_PAREN 398 399 ∷ fixed SEMICOLON 399 400 ∷ named 8 405 406 ∷ fixed DOT 406 407
+    ∷ named 4 407 409 ∷ fixed OPEN_PAREN 409 410 ∷ fixed CLOSE_PAREN 410 411 ∷ fixed SEMICOLON 411 412 ∷ fixed CLOSE_BRACE 415 416
+    ∷ fixed CLOSE_BRACE 417 418 ∷ []
 
 abbrev pub members_race : List Lexeme
 members_race =

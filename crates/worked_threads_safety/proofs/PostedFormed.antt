@@ -5,10 +5,10 @@ use Rattle.pv_ast.specs.declared.Operator.TheVariants as op
 use Rattle.pv_ast.specs.Rules.WellFormed.{IsWellFormed}
 use Rattle.worked_programs.specs.Nodes.{at, word, clause, contract, range}
 use Rattle.worked_programs.specs.Witnesses.{posted}
-use Rattle.worked_threads_safety.proofs.Folds.{number, var, perm, binary, assign, branch, counted, send, recv}
-use Rattle.worked_threads_safety.proofs.Trees.{Tree, Number, Var, Perm, Binary, tree_of, checked, shaped, formula_shaped, items_shaped}
-use Rattle.worked_threads_safety.proofs.Pieces.{Piece, Assign, If, For, Send, Recv, End, Next, statement_checked, statement_shaped}
-use Rattle.worked_threads_safety.proofs.Forming.{formed}
+use Rattle.worked_safety.proofs.Folds.{number, var, perm, binary, assign, branch, counted, send, recv}
+use Rattle.worked_safety.proofs.Trees.{Tree, Number, Var, Perm, Binary, tree_of, checked, shaped, formula_shaped, items_shaped}
+use Rattle.worked_safety.proofs.Pieces.{Piece, Assign, If, For, Send, Recv, End, Next, statement_checked, statement_shaped}
+use Rattle.worked_safety.proofs.Forming.{formed}
 
 -- its expressions, by the byte at which each begins
 abbrev node_33 : Tree
@@ -58,10 +58,33 @@ statement_69 = For (at 69 259) (range (word 3 78 79) (tree_of node_82) (tree_of 
 pub posted_formed : IsWellFormed posted
 posted_formed =
     formed posted
-    (rw (statement_checked statement_69, checked node_33, checked node_82, checked node_87, checked node_105, checked node_148,
-        checked node_158, checked node_162, checked node_184, checked node_235, checked node_245, checked node_249) refl)
-    (rw (statement_shaped statement_69, formula_shaped node_33, shaped node_82, shaped node_87, items_shaped 3 node_105,
-        shaped node_148, shaped node_158, shaped node_162, items_shaped 3 node_184, shaped node_235, shaped node_245,
-        shaped node_249) refl)
+    (rw (
+      statement_checked statement_69,
+      checked node_33,
+      checked node_82,
+      checked node_87,
+      checked node_105,
+      checked node_148,
+      checked node_158,
+      checked node_162,
+      checked node_184,
+      checked node_235,
+      checked node_245,
+      checked node_249,
+    ) refl)
+    (rw (
+      statement_shaped statement_69,
+      formula_shaped node_33,
+      shaped node_82,
+      shaped node_87,
+      items_shaped 3 node_105,
+      shaped node_148,
+      shaped node_158,
+      shaped node_162,
+      items_shaped 3 node_184,
+      shaped node_235,
+      shaped node_245,
+      shaped node_249,
+    ) refl)
     (simp (number, var, perm, binary, assign, branch, counted, send, recv) refl)
     (simp (number, var, perm, binary, assign, branch, counted, send, recv) refl)

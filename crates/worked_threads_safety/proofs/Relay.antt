@@ -1,5 +1,5 @@
 -- A par block whose first member hands a field to the second one at a barrier: whatever is picked, the judge doesn't fail.
-use Rattle.std.proofs.Common.{◌≡◌, ℕ, ℤ, pos, Bool, true, false, None, List, [], ◌∷◌, refl}
+use Rattle.std.proofs.Common.{◌≡◌, ℕ, ℤ, pos, true, false, None, List, [], ◌∷◌, refl}
 use Rattle.std.specs.Prelude.{◌-◌, nat_eq, nat_le}
 use Rattle.pv_ast.specs.declared.PvType.TheVariants as type
 use Rattle.pv_values.specs.declared.value.Value.TheVariants as value
@@ -8,9 +8,8 @@ use Rattle.pv_fraction.specs.Amounts.{whole}
 use Rattle.pv_picks.specs.declared.check.Check.TheVariants as check
 use Rattle.pv_picks.specs.declared.evidence.Entry.{Entry}
 use Rattle.pv_picks.specs.declared.unit.Part.TheVariants as part
-use Rattle.pv_picks.specs.declared.unit.PvUnit.{PvUnit}
 use Rattle.pv_picks.specs.Plain.Core.{Constant, This, Variable, Equal, FieldPermission, ToField, Value', Assign, If, When, Fixed, Join, NoItems, Meet, Barrier, Block, Stop, Then}
-use Rattle.pv_picks.specs.Formulas.Values.{no_variables, at_position, within}
+use Rattle.pv_picks.specs.Formulas.Values.{no_variables, at_position}
 use Rattle.pv_picks.specs.Judge.Rows.{Site}
 use Rattle.pv_picks.specs.Judge.States.{State, Resource, InField, amount_of, nothing_held, with_amount, with_value, with_cell}
 use Rattle.pv_picks.specs.Judge.Settings.{Setting}
@@ -20,14 +19,11 @@ use Rattle.pv_picks.specs.Judge.UnitRuns.{judge_task, task_of}
 use Rattle.worked_programs.specs.Nodes.{name, at}
 use Rattle.worked_programs.specs.CoreNodes.{always, contract, shared, barrier}
 use Rattle.worked_programs.specs.CoreWitnesses.{relay}
-use Rattle.worked_safety.proofs.Safely.{Safe, blocks, finishes, picked, signed, tested, goes, passed, failed, turned, same_self}
-use Rattle.worked_threads_safety.proofs.Rows.{entered, remembered, gains, positions}
+use Rattle.worked_safety.proofs.Safely.{Safe, blocks, finishes, picked, signed, tested, passed, failed, turned, same_self}
+use Rattle.worked_threads_safety.proofs.Rows.{unit, entered, remembered, gains, positions}
 
 abbrev field : ℕ → Resource
 field n = InField (name 0) n (name 1)
-
-abbrev unit : PvUnit
-unit = record { class = 0; part = part.Member 1 }
 
 module _ (maps : Maps) (table : List Entry) where
   abbrev S : Setting Judged
@@ -106,7 +102,8 @@ module _ (maps : Maps) (table : List Entry) where
   first_safe s h held =
       passed (same_value (s.variables 4) (value.Number (pos 0))) _ _ (rw (h.position) refl)
       (failed (nat_eq s.this 0) _ _ h.there
-      (passed (nat_le whole (amount_of s (field s.this))) _ _ (rw (held) refl) (first_meets (with_value s (field s.this) (value.Number (pos 1))) (record { there = h.there; position = h.position })
+      (passed (nat_le whole (amount_of s (field s.this))) _ _ (rw (held) refl)
+      (first_meets (with_value s (field s.this) (value.Number (pos 1))) (record { there = h.there; position = h.position })
       (rw (same_self s.this, held) refl))))
 
   second_safe : (s : State) → Stands (pos 1) s → s.held (field s.this) ≡ None → Safe (on (pos 1) first_writes s)
@@ -125,7 +122,7 @@ module _ (maps : Maps) (table : List Entry) where
   abbrev less : ℕ → ℤ → State
   less n z = with_amount (begun n z) (field n) (amount_of (begun n z) (field n) - whole)
 
-  pub relay_safe : Safe (judge_task S relay (task_of relay unit))
+  pub relay_safe : Safe (judge_task S relay (task_of relay (unit 0 (part.Member 1))))
   relay_safe =
       picked (signed _ (λ n. blocks) λ n. tested (nat_eq n 0) _ _ (λ e. blocks) λ e.
       failed (nat_eq n 0) _ _ e (picked λ z.

@@ -5,10 +5,10 @@ use Rattle.pv_ast.specs.declared.Operator.TheVariants as op
 use Rattle.pv_ast.specs.Rules.WellFormed.{IsWellFormed}
 use Rattle.worked_programs.specs.Nodes.{at, word, clause, contract, range}
 use Rattle.worked_programs.specs.Witnesses.{relay}
-use Rattle.worked_threads_safety.proofs.Folds.{number, var, perm, binary, assign, branch, par, barrier}
-use Rattle.worked_threads_safety.proofs.Trees.{Tree, Number, Var, Perm, Binary, tree_of, checked, shaped, formula_shaped, items_shaped}
-use Rattle.worked_threads_safety.proofs.Pieces.{Piece, Assign, If, Par, Barrier, End, Next, statement_checked, statement_shaped}
-use Rattle.worked_threads_safety.proofs.Forming.{formed}
+use Rattle.worked_safety.proofs.Folds.{number, var, perm, binary, assign, branch, par, barrier}
+use Rattle.worked_safety.proofs.Trees.{Tree, Number, Var, Perm, Binary, tree_of, checked, shaped, formula_shaped, items_shaped}
+use Rattle.worked_safety.proofs.Pieces.{Piece, Assign, If, Par, Barrier, End, Next, statement_checked, statement_shaped}
+use Rattle.worked_safety.proofs.Forming.{formed}
 
 -- its expressions, by the byte at which each begins
 abbrev node_34 : Tree
@@ -62,11 +62,35 @@ statement_71 = Par (at 71 324) (Some (word 3 75 79)) (range (word 4 84 85) (tree
 pub relay_formed : IsWellFormed relay
 relay_formed =
     formed relay
-    (rw (statement_checked statement_71, checked node_34, checked node_88, checked node_93, checked node_111, checked node_154,
-        checked node_164, checked node_168, checked node_212, checked node_255, checked node_300, checked node_310,
-        checked node_314) refl)
-    (rw (statement_shaped statement_71, formula_shaped node_34, shaped node_88, shaped node_93, items_shaped 4 node_111,
-        shaped node_154, shaped node_164, shaped node_168, items_shaped 4 node_212, items_shaped 4 node_255, shaped node_300,
-        shaped node_310, shaped node_314) refl)
+    (rw (
+      statement_checked statement_71,
+      checked node_34,
+      checked node_88,
+      checked node_93,
+      checked node_111,
+      checked node_154,
+      checked node_164,
+      checked node_168,
+      checked node_212,
+      checked node_255,
+      checked node_300,
+      checked node_310,
+      checked node_314,
+    ) refl)
+    (rw (
+      statement_shaped statement_71,
+      formula_shaped node_34,
+      shaped node_88,
+      shaped node_93,
+      items_shaped 4 node_111,
+      shaped node_154,
+      shaped node_164,
+      shaped node_168,
+      items_shaped 4 node_212,
+      items_shaped 4 node_255,
+      shaped node_300,
+      shaped node_310,
+      shaped node_314,
+    ) refl)
     (simp (number, var, perm, binary, assign, branch, par, barrier) refl)
     (simp (number, var, perm, binary, assign, branch, par, barrier) refl)

@@ -4,18 +4,23 @@ use Rattle.std.specs.Prelude.{int_le, int_lt, nat_eq, not, if◌then◌else◌}
 use Rattle.std.proofs.lemmas.Bool.{and_parts}
 use Rattle.std.proofs.lemmas.Int.{ints}
 use Rattle.pv_base.specs.declared.Name.{Name}
-use Rattle.pv_base.specs.declared.Span.{Span}
 use Rattle.pv_ast.specs.declared.PvType.TheVariants as type
 use Rattle.pv_values.specs.declared.value.Value.{Value}
 use Rattle.pv_values.specs.declared.value.Value.TheVariants as value
 use Rattle.pv_fraction.specs.Amounts.{whole}
 use Rattle.pv_picks.specs.declared.evidence.Entry.{Entry}
+use Rattle.pv_picks.specs.declared.unit.Part.{Part}
+use Rattle.pv_picks.specs.declared.unit.PvUnit.{PvUnit}
 use Rattle.pv_picks.specs.Formulas.Values.{within}
 use Rattle.pv_picks.specs.Judge.States.{State, Folded, Cell, Written, InField, cells_of, empty_state, with_cell, with_met, with_instances}
 use Rattle.pv_picks.specs.Judge.Settings.{Next, or_missing}
 use Rattle.pv_picks.specs.Judge.Permissions.{gain_field, or_short}
 use Rattle.pv_picks.specs.Judge.Runs.{Maps, Judged, blocked, judging}
 use Rattle.worked_safety.proofs.Safely.{Safe, blocks, picked, signed, tested, failed}
+
+-- the part of the class at a place
+abbrev pub unit : ℕ → Part → PvUnit
+unit class p = record { class = class; part = p }
 
 -- the state in which an object's method is entered, and that in which its body begins
 abbrev pub entered : Name → ℕ → State

@@ -60,6 +60,35 @@ module _ (p : Program) (mine f : Name) where
       subst (λ (n : Name). IsSome (if nat_eq n.0 f.0 then Some (Number (pos 0)) else None)) e (rw (eq-eqb f.0 f.0 refl) refl)
   complete one (suc (suc n)) class name hc hk = absurd (cc)
 
-  pub one_typed : HasKindOf heap_of_one (field_kind p mine f) (Number (pos 0)) → HasOneField → IsWellTyped (field_kind p) heap_of_one
+  pub one_typed : HasKindOf heap_of_one (field_kind p mine f) (Number (pos 0)) → HasOneField
+      → IsWellTyped (field_kind p) heap_of_one
   one_typed fits one =
       record { fields = fields_typed fits; elements = λ array. inl (no_elements array); complete = complete one }
+
+-- and so is one of an object without fields
+module _ (p : Program) (mine : Name) where
+  abbrev pub heap_of_none : List Thing
+  heap_of_none = Object mine [] ∷ []
+
+  no_values : (object : ℕ) (class name : Name) (given : Value) → class_of heap_of_none object ≡ Some class
+      → value_at heap_of_none (Field object name) ≡ Some given → HasKindOf heap_of_none (field_kind p class name) given
+  no_values zero class name given hc hv = absurd (cc)
+  no_values (suc zero) class name given hc hv = absurd (cc)
+  no_values (suc (suc n)) class name given hc hv = absurd (cc)
+
+  nothing : (array : ℕ) → HoldsOnly is_number heap_of_none array
+  nothing zero index given h = absurd (cc)
+  nothing (suc zero) index given h = absurd (cc)
+  nothing (suc (suc n)) index given h = absurd (cc)
+
+  none_complete : ((name : Name) → IsSome (field_kind p mine name) → ⊥) → (object : ℕ) (class name : Name)
+      → class_of heap_of_none object ≡ Some class → IsSome (field_kind p class name)
+      → IsSome (value_at heap_of_none (Field object name))
+  none_complete none zero class name hc hk = absurd (cc)
+  none_complete none (suc zero) class name hc hk =
+      absurd (none name (at_class (λ (k : Name). IsSome (field_kind p k name)) class mine (sym hc) hk))
+  none_complete none (suc (suc n)) class name hc hk = absurd (cc)
+
+  pub none_typed : ((name : Name) → IsSome (field_kind p mine name) → ⊥) → IsWellTyped (field_kind p) heap_of_none
+  none_typed none =
+      record { fields = no_values; elements = λ array. inl (nothing array); complete = none_complete none }

@@ -1,5 +1,5 @@
 -- Members that race, and a loop whose end depends on the order of its members: neither program is verified.
-use Rattle.std.proofs.Common.{◌≡◌, ℕ, ◌<◌, ◌≤◌, pos, Some, [], ◌∷◌, refl, subst, inl, inr, arith}
+use Rattle.std.proofs.Common.{◌≡◌, ◌<◌, ◌≤◌, pos, Some, [], ◌∷◌, refl, subst, inl, inr, arith}
 use Rattle.pv_values.specs.declared.value.Value.TheVariants.{Number}
 use Rattle.pv_values.specs.declared.value.Location.TheVariants.{Field}
 use Rattle.pv_picks.specs.Machine.Worlds.{Free, Ordered}

@@ -3,6 +3,7 @@ use Rattle.std.proofs.Common.{◌≡◌, ℕ, refl, ◌∙◌, ap, Option, Some,
 use Rattle.std.specs.Prelude.{map}
 use Rattle.pv_base.specs.declared.Span.{Span}
 use Rattle.pv_ast.specs.declared.Word.{Word}
+use Rattle.pv_ast.specs.declared.TypeWord.{TypeWord}
 use Rattle.pv_ast.specs.declared.Contract.{Contract}
 use Rattle.pv_ast.specs.declared.Range.{Range}
 use Rattle.pv_ast.specs.declared.Right.{Right}
@@ -13,11 +14,13 @@ use Rattle.pv_ast.specs.declared.StmtKind.TheVariants as s
 use Rattle.pv_ast.specs.declared.fault.ShapeFault.{ShapeFault}
 use Rattle.pv_ast.specs.Rules.Statements.{CheckedStatement, CheckedStatementKind, checked_in_statement_kind, checked_in_statement}
 use Rattle.pv_ast.specs.Rules.Shapes.{Environment, faults_in_stmt_kind, faults_in_stmt}
-use Rattle.worked_threads_safety.proofs.Folds.{run, assign, call, branch, counted, par, barrier, fork, lock, unlock, folds, unfolds, send, recv}
-use Rattle.worked_threads_safety.proofs.Trees.{Tree, tree_of}
+use Rattle.worked_safety.proofs.Folds.{run, local, assign, call, branch, counted, par, barrier, fork, lock, unlock, commit, folds, unfolds, send, recv}
+use Rattle.worked_safety.proofs.Trees.{Tree, tree_of}
 
 mutual
   pub data Piece : Type 0 where
+    -- a local holds a new object: its type, its name, where the right side stands, the class
+    New : Span → TypeWord → Word → Span → Word → Piece
     -- a value is assigned: where, the place, where the value stands, the value
     Assign : Span → Tree → Span → Tree → Piece
     -- on an object, without arguments
@@ -26,9 +29,11 @@ mutual
     For : Span → Range → Contract → Pieces → Piece
     Par : Span → Option Word → Range → Contract → Pieces → Piece
     Barrier : Span → Word → Contract → Piece
-    Fork Lock Unlock : Span → Tree → Piece
+    Fork Lock Unlock Commit : Span → Tree → Piece
     -- on `this`, without arguments
     Fold Unfold : Span → Word → Piece
+    -- on an object, without arguments
+    FoldOf : Span → Tree → Word → Piece
     Send : Span → Word → ℕ → Tree → Piece
     Recv : Span → Word → Piece
 
@@ -39,8 +44,12 @@ mutual
 abbrev pub value_of : Span → Tree → Right
 value_of p e = record { span = p; kind = r.Value (tree_of e) }
 
+abbrev pub made : Span → Word → Right
+made p w = record { span = p; kind = r.NewObject w }
+
 abbrev mutual
   pub stmt_of : Piece → Stmt
+  stmt_of (New p t w q c) = record { span = p; kind = s.Local t w (Some (made q c)) }
   stmt_of (Assign p e q v) = record { span = p; kind = s.Assign (tree_of e) (value_of q v) }
   stmt_of (Call p e w) = record { span = p; kind = s.Call (Some (tree_of e)) w [] }
   stmt_of (If p e xs ys) = record { span = p; kind = s.If (tree_of e) (stmts_of xs) (stmts_of ys) }
@@ -50,6 +59,8 @@ abbrev mutual
   stmt_of (Fork p e) = record { span = p; kind = s.Fork (tree_of e) }
   stmt_of (Lock p e) = record { span = p; kind = s.Lock (tree_of e) }
   stmt_of (Unlock p e) = record { span = p; kind = s.Unlock (tree_of e) }
+  stmt_of (Commit p e) = record { span = p; kind = s.Commit (tree_of e) }
+  stmt_of (FoldOf p e w) = record { span = p; kind = s.Fold (Some (tree_of e)) w [] }
   stmt_of (Fold p w) = record { span = p; kind = s.Fold None w [] }
   stmt_of (Unfold p w) = record { span = p; kind = s.Unfold None w [] }
   stmt_of (Send p w n e) = record { span = p; kind = s.Send w n (tree_of e) }
@@ -65,6 +76,7 @@ module _ (K S : Type 0) (in_kind : StmtKind-F K S → K) (in_stmt : Stmt-F K S �
 
   abbrev mutual
     pub given : Piece → S
+    given (New p t w q c) = at_node p (StmtKind-F.Local t w (Some (made q c)))
     given (Assign p e q v) = at_node p (StmtKind-F.Assign (tree_of e) (value_of q v))
     given (Call p e w) = at_node p (StmtKind-F.Call (Some (tree_of e)) w [])
     given (If p e xs ys) = at_node p (StmtKind-F.If (tree_of e) (all_given xs) (all_given ys))
@@ -74,6 +86,8 @@ module _ (K S : Type 0) (in_kind : StmtKind-F K S → K) (in_stmt : Stmt-F K S �
     given (Fork p e) = at_node p (StmtKind-F.Fork (tree_of e))
     given (Lock p e) = at_node p (StmtKind-F.Lock (tree_of e))
     given (Unlock p e) = at_node p (StmtKind-F.Unlock (tree_of e))
+    given (Commit p e) = at_node p (StmtKind-F.Commit (tree_of e))
+    given (FoldOf p e w) = at_node p (StmtKind-F.Fold (Some (tree_of e)) w [])
     given (Fold p w) = at_node p (StmtKind-F.Fold None w [])
     given (Unfold p w) = at_node p (StmtKind-F.Unfold None w [])
     given (Send p w n e) = at_node p (StmtKind-F.Send w n (tree_of e))
@@ -85,6 +99,7 @@ module _ (K S : Type 0) (in_kind : StmtKind-F K S → K) (in_stmt : Stmt-F K S �
 
   mutual
     pub agrees : (x : Piece) → run K S in_kind in_stmt (stmt_of x) ≡ given x
+    agrees (New p t w q c) = local K S in_kind in_stmt p t w (Some (made q c))
     agrees (Assign p e q v) = assign K S in_kind in_stmt p (tree_of e) (value_of q v)
     agrees (Call p e w) = call K S in_kind in_stmt p (Some (tree_of e)) w []
     agrees (If p e xs ys) =
@@ -101,6 +116,8 @@ module _ (K S : Type 0) (in_kind : StmtKind-F K S → K) (in_stmt : Stmt-F K S �
     agrees (Fork p e) = fork K S in_kind in_stmt p (tree_of e)
     agrees (Lock p e) = lock K S in_kind in_stmt p (tree_of e)
     agrees (Unlock p e) = unlock K S in_kind in_stmt p (tree_of e)
+    agrees (Commit p e) = commit K S in_kind in_stmt p (tree_of e)
+    agrees (FoldOf p e w) = folds K S in_kind in_stmt p (Some (tree_of e)) w []
     agrees (Fold p w) = folds K S in_kind in_stmt p None w []
     agrees (Unfold p w) = unfolds K S in_kind in_stmt p None w []
     agrees (Send p w n e) = send K S in_kind in_stmt p w n (tree_of e)

@@ -1,5 +1,5 @@
 -- Trees that compute: what a fold gives at the tree of each.
-use Rattle.std.proofs.Common.{◌≡◌, ℕ, ◌∙◌, ap, Some, None, List, []}
+use Rattle.std.proofs.Common.{◌≡◌, ℕ, ◌∙◌, ap, Some, None, []}
 use Rattle.pv_base.specs.declared.Span.{Span}
 use Rattle.pv_ast.specs.declared.Word.{Word}
 use Rattle.pv_ast.specs.declared.Token.{Token}
@@ -11,12 +11,14 @@ use Rattle.pv_ast.specs.declared.Each.{Each-F}
 use Rattle.pv_ast.specs.Rules.Expressions.{CheckedExpression, CheckedKind, checked_in_kind, checked_in_each, checked_in_expression}
 use Rattle.pv_ast.specs.Rules.Items.{Shape, KindShape, EachShape, shape_of, clause, shape_in_kind, shape_in_each, shape_in_expr}
 use Rattle.pv_ast.specs.Rules.Shapes.{quantifiers_in, faults_of_formula, faults_of_items}
-use Rattle.worked_threads_safety.proofs.Folds.{folded, number, null, this, var, perm, binary, token, own_instance, instance}
+use Rattle.worked_safety.proofs.Folds.{folded, number, null, this, var, field, old, perm, binary, token, own_instance, instance}
 
 pub data Tree : Type 0 where
   Number : Span → ℕ → Tree
   Null This : Span → Tree
   Var : Span → Word → Tree
+  Field : Span → Tree → Word → Tree
+  Old : Span → Tree → Tree
   Perm : Span → Tree → ℕ → ℕ → Span → Tree
   Binary : Span → Operator → Tree → Tree → Tree
   Held : Span → Token → Tree → Tree
@@ -29,6 +31,8 @@ tree_of (Number p n) = record { span = p; kind = k.Number n }
 tree_of (Null p) = record { span = p; kind = k.Null }
 tree_of (This p) = record { span = p; kind = k.This }
 tree_of (Var p w) = record { span = p; kind = k.Var w }
+tree_of (Field p e w) = record { span = p; kind = k.Field (tree_of e) w }
+tree_of (Old p e) = record { span = p; kind = k.Old (tree_of e) }
 tree_of (Perm p e a b t) = record { span = p; kind = k.Perm (tree_of e) a b t }
 tree_of (Binary p o e g) = record { span = p; kind = k.Binary o (tree_of e) (tree_of g) }
 tree_of (Held p t e) = record { span = p; kind = k.Token t (tree_of e) }
@@ -44,6 +48,8 @@ module _ (K Q P : Type 0) (in_kind : ExprKind-F K Q P → K) (in_each : Each-F K
   given (Null p) = at_node p ExprKind-F.Null
   given (This p) = at_node p ExprKind-F.This
   given (Var p w) = at_node p (ExprKind-F.Var w)
+  given (Field p e w) = at_node p (ExprKind-F.Field (given e) w)
+  given (Old p e) = at_node p (ExprKind-F.Old (given e))
   given (Perm p e a b t) = at_node p (ExprKind-F.Perm (given e) a b t)
   given (Binary p o e g) = at_node p (ExprKind-F.Binary o (given e) (given g))
   given (Held p t e) = at_node p (ExprKind-F.Token t (given e))
@@ -55,6 +61,10 @@ module _ (K Q P : Type 0) (in_kind : ExprKind-F K Q P → K) (in_each : Each-F K
   agrees (Null p) = null K Q P in_kind in_each in_expr p
   agrees (This p) = this K Q P in_kind in_each in_expr p
   agrees (Var p w) = var K Q P in_kind in_each in_expr p w
+  agrees (Field p e w) =
+      field K Q P in_kind in_each in_expr p (tree_of e) w ∙ ap (λ x. at_node p (ExprKind-F.Field x w)) (agrees e)
+  agrees (Old p e) =
+      old K Q P in_kind in_each in_expr p (tree_of e) ∙ ap (λ x. at_node p (ExprKind-F.Old x)) (agrees e)
   agrees (Perm p e a b t) =
       perm K Q P in_kind in_each in_expr p (tree_of e) a b t ∙ ap (λ x. at_node p (ExprKind-F.Perm x a b t)) (agrees e)
   agrees (Binary p o e g) =

@@ -1,8 +1,9 @@
 -- What a fold gives at each node of a tree, over what it gives at the parts.
-use Rattle.std.proofs.Common.{◌≡◌, ℕ, sym, ◌∙◌, ap, Option, Some, None, List, []}
+use Rattle.std.proofs.Common.{◌≡◌, ℕ, sym, ◌∙◌, ap, Option, Some, None, List}
 use Rattle.std.specs.Prelude.{map}
 use Rattle.pv_base.specs.declared.Span.{Span}
 use Rattle.pv_ast.specs.declared.Word.{Word}
+use Rattle.pv_ast.specs.declared.TypeWord.{TypeWord}
 use Rattle.pv_ast.specs.declared.Token.{Token}
 use Rattle.pv_ast.specs.declared.Operator.{Operator}
 use Rattle.pv_ast.specs.declared.Contract.{Contract}
@@ -47,6 +48,13 @@ module _ (K Q P : Type 0) (in_kind : ExprKind-F K Q P → K) (in_each : Each-F K
   pub var : (span : Span) (w : Word) → folded (record { span = span; kind = k.Var w }) ≡ step span (ExprKind-F.Var w)
   var span w = at_layer span (ExprKind-F.Var w) _ (k.rolls-Var w)
 
+  pub field : (span : Span) (e : Expr) (w : Word) → folded (record { span = span; kind = k.Field e w })
+      ≡ step span (ExprKind-F.Field (folded e) w)
+  field span e w = at_layer span (ExprKind-F.Field e w) _ (k.rolls-Field e w)
+
+  pub old : (span : Span) (e : Expr) → folded (record { span = span; kind = k.Old e }) ≡ step span (ExprKind-F.Old (folded e))
+  old span e = at_layer span (ExprKind-F.Old e) _ (k.rolls-Old e)
+
   pub perm : (span : Span) (e : Expr) (a b : ℕ) (t : Span)
       → folded (record { span = span; kind = k.Perm e a b t }) ≡ step span (ExprKind-F.Perm (folded e) a b t)
   perm span e a b t = at_layer span (ExprKind-F.Perm e a b t) _ (k.rolls-Perm e a b t)
@@ -86,6 +94,10 @@ module _ (K S : Type 0) (in_kind : StmtKind-F K S → K) (in_stmt : Stmt-F K S �
       ∙ ap (λ x. in_stmt (record { span = span; kind = fold-StmtKind K S in_kind in_stmt x })) (sym r)
       ∙ ap (λ x. in_stmt (record { span = span; kind = x })) (fold-roll-StmtKind K S in_kind in_stmt l)
 
+  pub local : (span : Span) (t : TypeWord) (w : Word) (x : Option Right) → run (record { span = span; kind = s.Local t w x })
+      ≡ stmt_step span (StmtKind-F.Local t w x)
+  local span t w x = at_stmt_layer span (StmtKind-F.Local t w x) _ (s.rolls-Local t w x)
+
   pub assign : (span : Span) (e : Expr) (x : Right) → run (record { span = span; kind = s.Assign e x })
       ≡ stmt_step span (StmtKind-F.Assign e x)
   assign span e x = at_stmt_layer span (StmtKind-F.Assign e x) _ (s.rolls-Assign e x)
@@ -118,6 +130,9 @@ module _ (K S : Type 0) (in_kind : StmtKind-F K S → K) (in_stmt : Stmt-F K S �
 
   pub unlock : (span : Span) (e : Expr) → run (record { span = span; kind = s.Unlock e }) ≡ stmt_step span (StmtKind-F.Unlock e)
   unlock span e = at_stmt_layer span (StmtKind-F.Unlock e) _ (s.rolls-Unlock e)
+
+  pub commit : (span : Span) (e : Expr) → run (record { span = span; kind = s.Commit e }) ≡ stmt_step span (StmtKind-F.Commit e)
+  commit span e = at_stmt_layer span (StmtKind-F.Commit e) _ (s.rolls-Commit e)
 
   pub folds : (span : Span) (o : Option Expr) (w : Word) (es : List Expr) → run (record { span = span; kind = s.Fold o w es })
       ≡ stmt_step span (StmtKind-F.Fold o w es)
