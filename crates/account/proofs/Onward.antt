@@ -220,7 +220,8 @@ module _ (p : Program) (w : World) (a : Account p w) (i : ℕ) (inside : i < w.c
       class_before zero class e is = m.null class is
       class_before (suc x) class e is = m.grown.class x class is (at_most (suc x) w.heap.count e)
 
-      go_promise : (x : ℕ) (class : Name) (d : Method) → x < suc later.count → later.class x ≡ Some class → run_of p class ≡ Some d
+      go_promise : (x : ℕ) (class : Name) (d : Method) → x < suc later.count → later.class x ≡ Some class → run_of p class
+          ≡ Some d
           → w.state x ≡ ThreadState.Ended → (b : Bool) → nat_le x w.heap.count ≡ b
           → KeepsOwning p w.committed later (outer_scene x [] []) d.contract.after
           (λ q. if b then a.owners.promise x q else 0)
@@ -229,9 +230,11 @@ module _ (p : Program) (w : World) (a : Account p w) (i : ℕ) (inside : i < w.c
           owning_later p w.committed w.heap later (outer_scene x [] []) d.contract.after (a.owners.promise x)
           (keeps_object (a.owners.promise x) x (omega (arith, l)) (λ q. omega arith))
           (a.objects.promises x class d (omega (arith, l)) (class_before x class e is) run ended)
-      go_promise x class d below is run ended false e = absurd ((m.new.object class x (not_above x w.heap.count e) below is).0 ended)
+      go_promise x class d below is run ended false e =
+          absurd ((m.new.object class x (not_above x w.heap.count e) below is).0 ended)
 
-      go_guard : (x : ℕ) (class : Name) (f : Formula) → x < suc later.count → later.class x ≡ Some class → invariant_of p class ≡ Some f
+      go_guard : (x : ℕ) (class : Name) (f : Formula) → x < suc later.count → later.class x ≡ Some class → invariant_of p class
+          ≡ Some f
           → w.committed x ≡ true → w.holder x ≡ None → (b : Bool) → nat_le x w.heap.count ≡ b
           → KeepsOwning p w.committed later (outer_scene x [] []) f (λ q. if b then a.owners.guard x q else 0)
       go_guard x class f below is inv flag free true e =
@@ -239,7 +242,8 @@ module _ (p : Program) (w : World) (a : Account p w) (i : ℕ) (inside : i < w.c
           owning_later p w.committed w.heap later (outer_scene x [] []) f (a.owners.guard x)
           (keeps_object (a.owners.guard x) x (omega (arith, l)) (λ q. omega arith))
           (a.objects.guards x class f (omega (arith, l)) (class_before x class e is) inv flag free)
-      go_guard x class f below is inv flag free false e = absurd ((m.new.object class x (not_above x w.heap.count e) below is).1 flag)
+      go_guard x class f below is inv flag free false e =
+          absurd ((m.new.object class x (not_above x w.heap.count e) below is).1 flag)
 
   pub accounted : Account p (with_heap (with_frames w i frames) later)
   accounted = record {

@@ -235,7 +235,8 @@ module _ (p : Program) (w : World) (a : Account p w) (sound : HeapFits p w.heap)
             (λ j e. refl)
             (λ j l c position is' label some was. there_at j l c position is' label
             (still_receives p w a sound framed i inside f stack b spot role k.run k.has_runs (AtSend m span) rest is
-            (λ c e. cc e) gave.run gave.fits gave.says gave.body enough j label some) was (nat_eq j to) refl (same_name label m.label) refl)
+            (λ c e. cc e) gave.run gave.fits gave.says gave.body enough j label some) was (nat_eq j to) refl
+            (same_name label m.label) refl)
 
     -- with the record that it was sent
     sent_on : Account p (with_message (with_frames w i (behind ∷ [])) b m.label spot)

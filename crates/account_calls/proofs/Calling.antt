@@ -196,7 +196,8 @@ module _ (p : Program) (verified : IsVerifiedThroughout p) (w : World) (sound : 
     fits = (g.fits, (g.waits, subst (λ c. AllWait p w.committed w.heap c below rs) (sym g.stays) fits.1));
     goes = record {
       bottom = λ P stays b. stays_at_bottom f (waiting_frame f class m count rest) r g.caller
-          (record { class = refl; method = refl; this = refl; begun = refl; old = refl }) (ap (λ c. c.body) g.stays) P stays below rs
+          (record { class = refl; method = refl; this = refl; begun = refl; old = refl }) (ap (λ c. c.body) g.stays) P stays below
+          rs
           (subst (λ fs. AtBottom P fs (r ∷ rs)) stands_at (subst (λ ys. AtBottom P (w.threads i).frames ys) has b));
       messages = λ S R b. bottom_exchanges S R f (waiting_frame f class m count rest)
           (λ h. (tt, (subst (λ ts. TasksExchange S R ts) is h).1)) below
