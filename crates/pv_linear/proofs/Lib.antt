@@ -10,3 +10,4 @@ pub mod SortedLemmas
 pub mod SortingLemmas
 pub mod SortsKept
 pub mod Splits
+pub mod Truths

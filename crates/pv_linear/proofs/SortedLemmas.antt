@@ -11,7 +11,7 @@ use Rattle.pv_linear.specs.Sorting.{IsNumberAmong, IsReferenceAmong, AreSortsApa
 use Rattle.pv_linear.specs.Sorts.{IsOfSorts, AreOfSorts, HasSorts}
 use Rattle.pv_linear.specs.Evidence.{Evidence, HasTurns, CanBeMet, Follows, MayAsk, answered}
 use Rattle.pv_linear.specs.Decisions.{Decision, fact, turn_is, Agrees, IsFront, AllBelow, AreNumbered, literals_in, turns_in, Decides, added, entailed, DecidesTurn, turned_to, kept}
-use Rattle.pv_linear.specs.Keeping.{Fits, Member, HasMember, KeepSorts, Tracks, Sorted, AreSorted}
+use Rattle.pv_linear.specs.Keeping.{AreUp, Fits, Member, HasMember, KeepSorts, Tracks, Sorted, AreSorted}
 use Rattle.pv_linear.proofs.MeetsLemmas.{Meets-left, Meets-right, Meets-append}
 use Rattle.pv_linear.proofs.Pairs.{Follows-more, kept_turn}
 use Rattle.pv_linear.proofs.AskingLemmas.{Follows-turn-more}
@@ -39,6 +39,7 @@ sorted_member takes path turns ds made s met = ∥∥₁_map (decided_met takes 
 -- on it the symbols made have the first of the sorts that the run takes
 front_of : (takes : Evidence → List Sort) (ds : List Decision) (made : List Sort) (m : Member (Fits takes) ds)
     → Tracks made (takes m.evidence) m.evidence.values → IsFront made (takes m.evidence)
+unfolding Tracks
 front_of takes ds made m (inl f) = f
 front_of takes ds made m (inr n) = absurd (n.1 m.has_it.up)
 
@@ -82,6 +83,7 @@ sorted_may_ask takes path turns ds made l s h met k n r = ∥∥₁_elim (sorted
 
 -- and keeps the sorts when it is answered
 tracked : (made taken : List Sort) (e : Evidence) → Tracks made taken e.values → IsFront made taken ⊎ IsFront taken made
+unfolding Tracks
 tracked made taken e (inl f) = inl f
 tracked made taken e (inr n) = inr n.0
 
@@ -223,7 +225,17 @@ pub sorted_turned_as : (turns : List ℕ) (old new : List Decision) (n : ℕ) �
     → AreSorted takes path (turns ++ n ∷ []) new made
 sorted_turned_as turns old new n lt d takes path made s = sorted_turned takes path turns old new made n d lt s
 
--- and a symbol that the run takes too
+-- symbols of the first of the sorts that the run takes
+pub tracks_front : (made taken : List Sort) (v : Values) → IsFront made taken → Tracks made taken v
+unfolding Tracks
+tracks_front made taken v f = inl f
+
+-- and of all of them, where it has ended at a negative reference
+pub tracks_ended : (made taken : List Sort) (v : Values) → IsFront taken made → (AreUp taken v → ⊥) → Tracks made taken v
+unfolding Tracks
+tracks_ended made taken v f n = inr (f, n)
+
+-- and a symbol that the run takes too keeps the sorts
 pub sorted_made : (takes : Evidence → List Sort) (path : List Literal) (turns : List ℕ) (ds : List Decision) (made : List Sort)
     (sort : Sort)
     → ((e : Evidence) → Follows path turns e → HasTurns e → Tracks (made ++ sort ∷ []) (takes e) e.values)
@@ -245,7 +257,7 @@ sorted_made takes path turns ds made sort h s = record {
 -- a run starts with it, where its path has just the literals among the decisions
 pub sorted_start : (takes : Evidence → List Sort) (ds : List Decision) → AreNumbered 0 ds → AllBelow (turns_in ds)
     → AreSortsApart (literals_in ds) → KeepSorts takes ds → AreSorted takes (literals_in ds) [] ds []
-unfolding AreSorted Follows
+unfolding AreSorted Follows Tracks
 sorted_start takes ds numbered below apart keep = record {
   follows = λ e a. (agreed_meets e ds a, λ k lt. absurd (omega (arith, lt)));
   meets = λ v m. m;

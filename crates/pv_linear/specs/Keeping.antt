@@ -44,7 +44,7 @@ abbrev pub KeepSorts : (Evidence → List Sort) → List Decision → Type 0
 KeepSorts takes ds = KeepSortsBehind takes [] ds
 
 -- the symbols made so far have the first of the sorts that the run takes; or the run has ended, at a negative reference
-abbrev pub Tracks : List Sort → List Sort → Values → Type 0
+unfoldable pub Tracks : List Sort → List Sort → Values → Type 0
 Tracks made taken v = IsFront made taken ⊎ (IsFront taken made × (AreUp taken v → ⊥))
 
 -- all that a run along one path keeps of sorts
