@@ -8,7 +8,7 @@ use Rattle.pv_picks.specs.Judge.UnitRuns.{judge_task, task_of}
 use Rattle.pv_picks.specs.declared.unit.Part.TheVariants as part
 use Rattle.pv_picks.specs.declared.unit.PvUnit.{PvUnit}
 use Rattle.worked_programs.specs.CoreObjects.{chain}
-use Rattle.worked_safety.proofs.Safely.{Safe, blocks, finishes, picked, signed, tested, goes, passed, failed, turned, same_self, numbers_same}
+use Rattle.worked_forms.proofs.Safely.{Safe, blocks, finishes, picked, signed, tested, goes, passed, failed, turned, same_self, numbers_same}
 
 abbrev pub body : PvUnit
 body = record { class = 0; part = part.Member 1 }

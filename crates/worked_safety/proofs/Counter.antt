@@ -8,7 +8,7 @@ use Rattle.pv_picks.specs.Judge.UnitRuns.{judge_task, task_of}
 use Rattle.pv_picks.specs.declared.unit.Part.TheVariants as part
 use Rattle.pv_picks.specs.declared.unit.PvUnit.{PvUnit}
 use Rattle.worked_programs.specs.CoreObjects.{counter}
-use Rattle.worked_safety.proofs.Safely.{Safe, blocks, finishes, picked, signed, tested, failed, turned, same_self, number_self}
+use Rattle.worked_forms.proofs.Safely.{Safe, blocks, finishes, picked, signed, tested, failed, turned, same_self, number_self}
 
 abbrev pub unit : PvUnit
 unit = record { class = 0; part = part.Member 1 }

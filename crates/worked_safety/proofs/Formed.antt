@@ -4,10 +4,10 @@ use Rattle.pv_ast.specs.declared.Operator.TheVariants as op
 use Rattle.pv_ast.specs.Rules.WellFormed.{IsWellFormed}
 use Rattle.worked_programs.specs.Nodes.{at, word}
 use Rattle.worked_programs.specs.Objects.{counter}
-use Rattle.worked_safety.proofs.Folds.{number, var, old, perm, binary, assign}
-use Rattle.worked_safety.proofs.Trees.{Tree, Number, Var, Old, Perm, Binary, checked, shaped, formula_shaped}
-use Rattle.worked_safety.proofs.Pieces.{Piece, Assign, statement_checked, statement_shaped}
-use Rattle.worked_safety.proofs.Forming.{formed}
+use Rattle.worked_forms.proofs.Folds.{number, var, old, perm, binary, assign}
+use Rattle.worked_forms.proofs.Trees.{Tree, Number, Var, Old, Perm, Binary, checked, shaped, formula_shaped}
+use Rattle.worked_forms.proofs.Pieces.{Piece, Assign, statement_checked, statement_shaped}
+use Rattle.worked_forms.proofs.Forming.{formed}
 
 -- its expressions, by the byte at which each begins
 abbrev node_36 : Tree

@@ -1,8 +1,3 @@
-pub mod Safely
-pub mod Folds
-pub mod Trees
-pub mod Pieces
-pub mod Forming
 mod Formed
 mod Counter
 mod Chain

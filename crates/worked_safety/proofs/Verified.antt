@@ -12,7 +12,7 @@ use Rattle.worked_trees.proofs.Objects.{objects_become}
 use Rattle.worked_safety.specs.Verified.{CounterIsVerified, ChainIsVerified, CounterPasses, WritersAreNotVerified}
 use Rattle.machine_loops.proofs.Programs.{passed}
 use Rattle.soundness.proofs.Runs.{safe}
-use Rattle.worked_safety.proofs.Safely.{verified_as, never_fails}
+use Rattle.worked_forms.proofs.Safely.{verified_as, never_fails}
 use Rattle.worked_safety.proofs.Formed.{counter_formed}
 use Rattle.worked_safety.proofs.Counter.{unit, increments}
 use Rattle.worked_safety.proofs.Chain.{body, up, body_safe, up_safe}

@@ -5,10 +5,10 @@ use Rattle.pv_ast.specs.declared.Token.TheVariants as token
 use Rattle.pv_ast.specs.Rules.WellFormed.{IsWellFormed}
 use Rattle.worked_programs.specs.Nodes.{at, name, word, type_at}
 use Rattle.worked_programs.specs.Witnesses.{handed}
-use Rattle.worked_safety.proofs.Folds.{number, this, var, field, perm, token, local, assign, fork, lock, unlock, commit}
-use Rattle.worked_safety.proofs.Trees.{Tree, Number, This, Var, Field, Perm, Held, checked, shaped, formula_shaped}
-use Rattle.worked_safety.proofs.Pieces.{Piece, New, Assign, Fork, Lock, Unlock, Commit, statement_checked, statement_shaped}
-use Rattle.worked_safety.proofs.Forming.{formed}
+use Rattle.worked_forms.proofs.Folds.{number, this, var, field, perm, token, local, assign, fork, lock, unlock, commit}
+use Rattle.worked_forms.proofs.Trees.{Tree, Number, This, Var, Field, Perm, Held, checked, shaped, formula_shaped}
+use Rattle.worked_forms.proofs.Pieces.{Piece, New, Assign, Fork, Lock, Unlock, Commit, statement_checked, statement_shaped}
+use Rattle.worked_forms.proofs.Forming.{formed}
 
 -- its expressions, by the byte at which each begins
 abbrev node_15 : Tree

@@ -5,10 +5,10 @@ use Rattle.pv_ast.specs.declared.PvType.TheVariants as type
 use Rattle.pv_ast.specs.Rules.WellFormed.{IsWellFormed}
 use Rattle.worked_programs.specs.Nodes.{at, name, word, type_at}
 use Rattle.worked_programs.specs.Witnesses.{list}
-use Rattle.worked_safety.proofs.Folds.{number, null, var, field, perm, binary, own_instance, instance, local, assign, call, branch, folds, unfolds}
-use Rattle.worked_safety.proofs.Trees.{Tree, Number, Null, Var, Field, Perm, Binary, Own, Of, checked, shaped, formula_shaped}
-use Rattle.worked_safety.proofs.Pieces.{Piece, New, Assign, Call, If, FoldOf, Fold, Unfold, End, Next, statement_checked, statement_shaped}
-use Rattle.worked_safety.proofs.Forming.{formed}
+use Rattle.worked_forms.proofs.Folds.{number, null, var, field, perm, binary, own_instance, instance, local, assign, call, branch, folds, unfolds}
+use Rattle.worked_forms.proofs.Trees.{Tree, Number, Null, Var, Field, Perm, Binary, Own, Of, checked, shaped, formula_shaped}
+use Rattle.worked_forms.proofs.Pieces.{Piece, New, Assign, Call, If, FoldOf, Fold, Unfold, End, Next, statement_checked, statement_shaped}
+use Rattle.worked_forms.proofs.Forming.{formed}
 
 -- its expressions, by the byte at which each begins
 abbrev node_53 : Tree

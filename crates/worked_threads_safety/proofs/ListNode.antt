@@ -22,7 +22,7 @@ use Rattle.pv_picks.specs.Judge.UnitRuns.{of_method, judge_task, task_of}
 use Rattle.worked_programs.specs.Nodes.{name, at}
 use Rattle.worked_programs.specs.CoreNodes.{always}
 use Rattle.worked_programs.specs.CoreWitnesses.{list}
-use Rattle.worked_safety.proofs.Safely.{Safe, blocks, finishes, picked, signed, tested, passed, failed, turned, same_self}
+use Rattle.worked_forms.proofs.Safely.{Safe, blocks, finishes, picked, signed, tested, passed, failed, turned, same_self}
 use Rattle.worked_threads_safety.proofs.Rows.{unit, entered, remembered, gains, gains_reference, reads, takes, unless}
 
 abbrev number_in : ℕ → Resource

@@ -3,10 +3,10 @@ use Rattle.std.proofs.Common.{refl, []}
 use Rattle.pv_ast.specs.Rules.WellFormed.{IsWellFormed}
 use Rattle.worked_programs.specs.Nodes.{at, word, contract, range}
 use Rattle.worked_programs.specs.Witnesses.{overwritten}
-use Rattle.worked_safety.proofs.Folds.{number, var, assign, counted}
-use Rattle.worked_safety.proofs.Trees.{Tree, Number, Var, tree_of, checked, shaped}
-use Rattle.worked_safety.proofs.Pieces.{Piece, Assign, For, End, Next, statement_checked, statement_shaped}
-use Rattle.worked_safety.proofs.Forming.{formed}
+use Rattle.worked_forms.proofs.Folds.{number, var, assign, counted}
+use Rattle.worked_forms.proofs.Trees.{Tree, Number, Var, tree_of, checked, shaped}
+use Rattle.worked_forms.proofs.Pieces.{Piece, Assign, For, End, Next, statement_checked, statement_shaped}
+use Rattle.worked_forms.proofs.Forming.{formed}
 
 -- its expressions, by the byte at which each begins
 abbrev node_55 : Tree

@@ -19,7 +19,7 @@ use Rattle.pv_picks.specs.Judge.UnitRuns.{judge_task, task_of}
 use Rattle.worked_programs.specs.Nodes.{name, at}
 use Rattle.worked_programs.specs.CoreNodes.{always, contract, shared, barrier}
 use Rattle.worked_programs.specs.CoreWitnesses.{relay}
-use Rattle.worked_safety.proofs.Safely.{Safe, blocks, finishes, picked, signed, tested, passed, failed, turned, same_self}
+use Rattle.worked_forms.proofs.Safely.{Safe, blocks, finishes, picked, signed, tested, passed, failed, turned, same_self}
 use Rattle.worked_threads_safety.proofs.Rows.{unit, entered, remembered, gains, positions}
 
 abbrev field : ℕ → Resource

@@ -5,10 +5,10 @@ use Rattle.pv_ast.specs.declared.Operator.TheVariants as op
 use Rattle.pv_ast.specs.Rules.WellFormed.{IsWellFormed}
 use Rattle.worked_programs.specs.Nodes.{at, word, clause, contract, range}
 use Rattle.worked_programs.specs.Witnesses.{relay}
-use Rattle.worked_safety.proofs.Folds.{number, var, perm, binary, assign, branch, par, barrier}
-use Rattle.worked_safety.proofs.Trees.{Tree, Number, Var, Perm, Binary, tree_of, checked, shaped, formula_shaped, items_shaped}
-use Rattle.worked_safety.proofs.Pieces.{Piece, Assign, If, Par, Barrier, End, Next, statement_checked, statement_shaped}
-use Rattle.worked_safety.proofs.Forming.{formed}
+use Rattle.worked_forms.proofs.Folds.{number, var, perm, binary, assign, branch, par, barrier}
+use Rattle.worked_forms.proofs.Trees.{Tree, Number, Var, Perm, Binary, tree_of, checked, shaped, formula_shaped, items_shaped}
+use Rattle.worked_forms.proofs.Pieces.{Piece, Assign, If, Par, Barrier, End, Next, statement_checked, statement_shaped}
+use Rattle.worked_forms.proofs.Forming.{formed}
 
 -- its expressions, by the byte at which each begins
 abbrev node_34 : Tree

@@ -16,7 +16,7 @@ use Rattle.pv_picks.specs.Judge.States.{State, Folded, Cell, Written, InField, c
 use Rattle.pv_picks.specs.Judge.Settings.{Next, or_missing}
 use Rattle.pv_picks.specs.Judge.Permissions.{gain_field, or_short}
 use Rattle.pv_picks.specs.Judge.Runs.{Maps, Judged, blocked, judging}
-use Rattle.worked_safety.proofs.Safely.{Safe, blocks, picked, signed, tested, failed}
+use Rattle.worked_forms.proofs.Safely.{Safe, blocks, picked, signed, tested, failed}
 
 -- the part of the class at a place
 abbrev pub unit : ℕ → Part → PvUnit

@@ -5,7 +5,7 @@ use Rattle.worked_programs.specs.CoreWitnesses as cores
 use Rattle.worked_trees.proofs.Witnesses.{witnesses_become}
 use Rattle.machine_loops.proofs.Programs.{passed}
 use Rattle.soundness.proofs.Runs.{safe}
-use Rattle.worked_safety.proofs.Safely.{verified_as, never_fails}
+use Rattle.worked_forms.proofs.Safely.{verified_as, never_fails}
 use Rattle.worked_threads_safety.specs.Verified.{HandedIsVerified, ListIsVerified, PostedIsVerified, RelayIsVerified, HandedPasses, RelayPasses, PostedPasses, ListPasses}
 use Rattle.worked_threads_safety.proofs.Rows.{unit}
 use Rattle.worked_threads_safety.proofs.Handed.{invariant_safe, run_safe, main_safe}

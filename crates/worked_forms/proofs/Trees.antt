@@ -11,7 +11,7 @@ use Rattle.pv_ast.specs.declared.Each.{Each-F}
 use Rattle.pv_ast.specs.Rules.Expressions.{CheckedExpression, CheckedKind, checked_in_kind, checked_in_each, checked_in_expression}
 use Rattle.pv_ast.specs.Rules.Items.{Shape, KindShape, EachShape, shape_of, clause, shape_in_kind, shape_in_each, shape_in_expr}
 use Rattle.pv_ast.specs.Rules.Shapes.{quantifiers_in, faults_of_formula, faults_of_items}
-use Rattle.worked_safety.proofs.Folds.{folded, number, null, this, var, field, old, perm, binary, token, own_instance, instance}
+use Rattle.worked_forms.proofs.Folds.{folded, number, null, this, var, field, old, perm, binary, token, own_instance, instance}
 
 pub data Tree : Type 0 where
   Number : Span → ℕ → Tree

@@ -14,8 +14,8 @@ use Rattle.pv_ast.specs.declared.StmtKind.TheVariants as s
 use Rattle.pv_ast.specs.declared.fault.ShapeFault.{ShapeFault}
 use Rattle.pv_ast.specs.Rules.Statements.{CheckedStatement, CheckedStatementKind, checked_in_statement_kind, checked_in_statement}
 use Rattle.pv_ast.specs.Rules.Shapes.{Environment, faults_in_stmt_kind, faults_in_stmt}
-use Rattle.worked_safety.proofs.Folds.{run, local, assign, call, branch, counted, par, barrier, fork, lock, unlock, commit, folds, unfolds, send, recv}
-use Rattle.worked_safety.proofs.Trees.{Tree, tree_of}
+use Rattle.worked_forms.proofs.Folds.{run, local, assign, call, branch, counted, par, barrier, fork, lock, unlock, commit, folds, unfolds, send, recv}
+use Rattle.worked_forms.proofs.Trees.{Tree, tree_of}
 
 mutual
   pub data Piece : Type 0 where
