@@ -1,11 +1,27 @@
 //! For each static rule and each shape a text that breaks it, its line, and a text beside it that differs in one token and
 //! keeps it, with what is printed of that one.
 use crate::tests::{NONE, verify};
+use std::alloc::Global;
+use std::process::Abort;
 use std::test::Fail;
 
+/// A text that is refused, its line, a text that keeps the rule, and what is printed of that.
+type Row<'a> = (&'a [u8], &'a [u8], &'a [u8], &'a [u8]);
+
+fn expect_rows(rt: &impl Abort, alloc: Global, rows: &[Row]) -> Result<(), Fail> {
+    for row in rows {
+        let (refused, line, accepted, output) = *row;
+        let (_, written) = verify(alloc, refused, NONE)?;
+        assert_eq!(rt; written.as_slice(), line);
+        let (_, written) = verify(alloc, accepted, NONE)?;
+        assert_eq!(rt; written.as_slice(), output);
+    }
+    Ok(())
+}
+
 #[test]
-fn rules_of_expressions(rt: HostRuntime) -> Result<(), Fail> {
-    let rows: [(&[u8], &[u8], &[u8], &[u8]); 10] = [
+fn rules_of_names(rt: HostRuntime) -> Result<(), Fail> {
+    let rows: [Row; 5] = [
         (
             b"class A { B x; }",
             b"TextRefused UnknownName 1:11-1:12\n",
@@ -25,6 +41,25 @@ fn rules_of_expressions(rt: HostRuntime) -> Result<(), Fail> {
             b"Pass A.f\nPass\n",
         ),
         (
+            b"class A { void f() { int m; par t (int i = 0 .. 1) { int k; barrier(t) { requires k == 0; } } } }",
+            b"TextRefused FormulaScope 1:83-1:84\n",
+            b"class A { void f() { int m; par t (int i = 0 .. 1) { int k; barrier(t) { requires i == 0; } } } }",
+            b"TextRefused NotBuilt\n",
+        ),
+        (
+            b"class A { requires (\\forall int i; 0 <= n && i < n; true); void f(int n) { } }",
+            b"TextRefused RangeName 1:41-1:42\n",
+            b"class A { requires (\\forall int i; 0 <= i && i < n; true); void f(int n) { } }",
+            b"TextRefused NotBuilt\n",
+        ),
+    ];
+    expect_rows(&rt, rt.alloc(), &rows)
+}
+
+#[test]
+fn rules_of_types(rt: HostRuntime) -> Result<(), Fail> {
+    let rows: [Row; 3] = [
+        (
             b"class A { void f(int x) { assert x && true; } }",
             b"TextRefused WrongType 1:34-1:35\n",
             b"class A { void f(int x) { assert true && true; } }",
@@ -37,11 +72,18 @@ fn rules_of_expressions(rt: HostRuntime) -> Result<(), Fail> {
             b"TextRefused NotBuilt\n",
         ),
         (
-            b"class A { int x; requires !Perm(x, write); void f() { } }",
-            b"TextRefused NotPure 1:28-1:42\n",
-            b"class A { int x; requires Perm(x, write); void f() { } }",
+            b"class R { run { } } class A { void f(A a, R r) { fork a; } }",
+            b"TextRefused NoRole 1:55-1:56\n",
+            b"class R { run { } } class A { void f(A a, R r) { fork r; } }",
             b"TextRefused NotBuilt\n",
         ),
+    ];
+    expect_rows(&rt, rt.alloc(), &rows)
+}
+
+#[test]
+fn rules_of_results(rt: HostRuntime) -> Result<(), Fail> {
+    let rows: [Row; 4] = [
         (
             b"class A { int f() { } }",
             b"TextRefused NoReturn 1:15-1:16\n",
@@ -67,23 +109,17 @@ fn rules_of_expressions(rt: HostRuntime) -> Result<(), Fail> {
             b"TextRefused NotBuilt\n",
         ),
     ];
-    for (refused, line, accepted, output) in rows {
-        let (_, written) = verify(rt.alloc(), refused, NONE)?;
-        assert_eq!(rt; written.as_slice(), line);
-        let (_, written) = verify(rt.alloc(), accepted, NONE)?;
-        assert_eq!(rt; written.as_slice(), output);
-    }
-    Ok(())
+    expect_rows(&rt, rt.alloc(), &rows)
 }
 
 #[test]
-fn rules_of_statements(rt: HostRuntime) -> Result<(), Fail> {
-    let rows: [(&[u8], &[u8], &[u8], &[u8]); 10] = [
+fn rules_of_permissions(rt: HostRuntime) -> Result<(), Fail> {
+    let rows: [Row; 4] = [
         (
-            b"class A { void f(int x) { int y; x = 1; } }",
-            b"TextRefused NotAssignable 1:34-1:35\n",
-            b"class A { void f(int x) { int y; y = 1; } }",
-            b"Pass A.f\nPass\n",
+            b"class A { int x; requires !Perm(x, write); void f() { } }",
+            b"TextRefused NotPure 1:28-1:42\n",
+            b"class A { int x; requires Perm(x, write); void f() { } }",
+            b"TextRefused NotBuilt\n",
         ),
         (
             b"class A { int x; int length; requires Perm(y, write); void f(int[] a, int y) { } }",
@@ -98,11 +134,18 @@ fn rules_of_statements(rt: HostRuntime) -> Result<(), Fail> {
             b"TextRefused NotBuilt\n",
         ),
         (
-            b"class R { run { } } class A { void f(A a, R r) { fork a; } }",
-            b"TextRefused NoRole 1:55-1:56\n",
-            b"class R { run { } } class A { void f(A a, R r) { fork r; } }",
-            b"TextRefused NotBuilt\n",
+            b"class A { void f(int x) { int y; x = 1; } }",
+            b"TextRefused NotAssignable 1:34-1:35\n",
+            b"class A { void f(int x) { int y; y = 1; } }",
+            b"Pass A.f\nPass\n",
         ),
+    ];
+    expect_rows(&rt, rt.alloc(), &rows)
+}
+
+#[test]
+fn rules_of_blocks(rt: HostRuntime) -> Result<(), Fail> {
+    let rows: [Row; 4] = [
         (
             b"class A { void f() { par t (int i = 0 .. 1) { par u (int j = 0 .. 1) { barrier(t) { } } } } }",
             b"TextRefused BarrierPlace 1:80-1:81\n",
@@ -127,31 +170,13 @@ fn rules_of_statements(rt: HostRuntime) -> Result<(), Fail> {
             b"class A { void f() { for (int i = 0 .. 1) { send S, 1: true; send T, 1: true; } } }",
             b"TextRefused NotBuilt\n",
         ),
-        (
-            b"class A { void f() { int m; par t (int i = 0 .. 1) { int k; barrier(t) { requires k == 0; } } } }",
-            b"TextRefused FormulaScope 1:83-1:84\n",
-            b"class A { void f() { int m; par t (int i = 0 .. 1) { int k; barrier(t) { requires i == 0; } } } }",
-            b"TextRefused NotBuilt\n",
-        ),
-        (
-            b"class A { requires (\\forall int i; 0 <= n && i < n; true); void f(int n) { } }",
-            b"TextRefused RangeName 1:41-1:42\n",
-            b"class A { requires (\\forall int i; 0 <= i && i < n; true); void f(int n) { } }",
-            b"TextRefused NotBuilt\n",
-        ),
     ];
-    for (refused, line, accepted, output) in rows {
-        let (_, written) = verify(rt.alloc(), refused, NONE)?;
-        assert_eq!(rt; written.as_slice(), line);
-        let (_, written) = verify(rt.alloc(), accepted, NONE)?;
-        assert_eq!(rt; written.as_slice(), output);
-    }
-    Ok(())
+    expect_rows(&rt, rt.alloc(), &rows)
 }
 
 #[test]
-fn shapes(rt: HostRuntime) -> Result<(), Fail> {
-    let rows: [(&[u8], &[u8], &[u8], &[u8]); 7] = [
+fn shapes_of_quantifiers(rt: HostRuntime) -> Result<(), Fail> {
+    let rows: [Row; 4] = [
         (
             b"class A { requires (\\forall int j = 0 .. 1; true) || true; void f() { } }",
             b"TextRefused QuantifierShape 1:20-1:50\n",
@@ -176,6 +201,13 @@ fn shapes(rt: HostRuntime) -> Result<(), Fail> {
             b"class A { requires (\\forall int j = 0 .. 1; true); void f() { } }",
             b"TextRefused NotBuilt\n",
         ),
+    ];
+    expect_rows(&rt, rt.alloc(), &rows)
+}
+
+#[test]
+fn shapes_of_items(rt: HostRuntime) -> Result<(), Fail> {
+    let rows: [Row; 3] = [
         (
             b"lock_invariant true; class A { int x; resource p(int k) = true; run { } void f(int[] a, int n, boolean t) { par (int i = 0 .. n) requires Perm(a[i + n], write); { } } }",
             b"TextRefused ItemShape 1:139-1:160\n",
@@ -195,11 +227,5 @@ fn shapes(rt: HostRuntime) -> Result<(), Fail> {
             b"TextRefused NotBuilt\n",
         ),
     ];
-    for (refused, line, accepted, output) in rows {
-        let (_, written) = verify(rt.alloc(), refused, NONE)?;
-        assert_eq!(rt; written.as_slice(), line);
-        let (_, written) = verify(rt.alloc(), accepted, NONE)?;
-        assert_eq!(rt; written.as_slice(), output);
-    }
-    Ok(())
+    expect_rows(&rt, rt.alloc(), &rows)
 }
