@@ -18,7 +18,7 @@ write() {
 write Objects counter counter_by_two half writers alias account account_kept chain chain_by_two sum grow
 write Arrays last read_wrong read fill
 write Threads unheld_invariant pair_of_two pair twice members shift_too_far shift copying copying_unsent
-write Witnesses handed relay posted list members_race overwritten
+write Witnesses handed relay posted list members_race overwritten divided
 
 python3 wrap.py ../crates/worked_texts/specs/Tokens*.antt ../crates/worked_programs/specs/*.antt
 for crate in worked_texts worked_programs; do (cd "../crates/$crate" && rt fmt); done

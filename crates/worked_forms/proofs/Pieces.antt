@@ -21,6 +21,8 @@ mutual
   pub data Piece : Type 0 where
     -- a local holds a new object: its type, its name, where the right side stands, the class
     New : Span → TypeWord → Word → Span → Word → Piece
+    -- a local holds a value: its type, its name, where the value stands, the value
+    Let : Span → TypeWord → Word → Span → Tree → Piece
     -- a value is assigned: where, the place, where the value stands, the value
     Assign : Span → Tree → Span → Tree → Piece
     -- on an object, without arguments
@@ -50,6 +52,7 @@ made p w = record { span = p; kind = r.NewObject w }
 abbrev mutual
   pub stmt_of : Piece → Stmt
   stmt_of (New p t w q c) = record { span = p; kind = s.Local t w (Some (made q c)) }
+  stmt_of (Let p t w q v) = record { span = p; kind = s.Local t w (Some (value_of q v)) }
   stmt_of (Assign p e q v) = record { span = p; kind = s.Assign (tree_of e) (value_of q v) }
   stmt_of (Call p e w) = record { span = p; kind = s.Call (Some (tree_of e)) w [] }
   stmt_of (If p e xs ys) = record { span = p; kind = s.If (tree_of e) (stmts_of xs) (stmts_of ys) }
@@ -77,6 +80,7 @@ module _ (K S : Type 0) (in_kind : StmtKind-F K S → K) (in_stmt : Stmt-F K S �
   abbrev mutual
     pub given : Piece → S
     given (New p t w q c) = at_node p (StmtKind-F.Local t w (Some (made q c)))
+    given (Let p t w q v) = at_node p (StmtKind-F.Local t w (Some (value_of q v)))
     given (Assign p e q v) = at_node p (StmtKind-F.Assign (tree_of e) (value_of q v))
     given (Call p e w) = at_node p (StmtKind-F.Call (Some (tree_of e)) w [])
     given (If p e xs ys) = at_node p (StmtKind-F.If (tree_of e) (all_given xs) (all_given ys))
@@ -100,6 +104,7 @@ module _ (K S : Type 0) (in_kind : StmtKind-F K S → K) (in_stmt : Stmt-F K S �
   mutual
     pub agrees : (x : Piece) → run K S in_kind in_stmt (stmt_of x) ≡ given x
     agrees (New p t w q c) = local K S in_kind in_stmt p t w (Some (made q c))
+    agrees (Let p t w q v) = local K S in_kind in_stmt p t w (Some (value_of q v))
     agrees (Assign p e q v) = assign K S in_kind in_stmt p (tree_of e) (value_of q v)
     agrees (Call p e w) = call K S in_kind in_stmt p (Some (tree_of e)) w []
     agrees (If p e xs ys) =

@@ -146,3 +146,35 @@ overwritten_last = class (name 0) None (IsField ((name 1), type.Int)
 
 abbrev pub overwritten : Program
 overwritten = (overwritten_last ∷ [])
+
+abbrev pub divided_share : Class
+divided_share = class (name 0) None (IsField ((name 1), type.Int)
+    ∷ IsMethod (method (Some (name 2)) ([]) None
+    (contract (FieldPermission This (name 0) (name 1) type.Int 5342931457063200 (at 34 48))
+    (FieldPermission This (name 0) (name 1) type.Int 5342931457063200 (at 60 74)))
+    (Then
+    (Members (team false (name 3) (Constant (value.Number (pos 0))) (Constant (value.Number (pos 2)))
+    (shared
+    (contract
+    (Star (When (Equal true (Variable (name 3)) (Constant (value.Number (pos 0))))
+    (FieldPermission This (name 0) (name 1) type.Int 2671465728531600 (at 133 156)) (at 133 156))
+    (When (Equal true (Variable (name 3)) (Constant (value.Number (pos 1))))
+    (FieldPermission This (name 0) (name 1) type.Int 2671465728531600 (at 173 196)) (at 173 196)))
+    (Star (When (Equal true (Variable (name 3)) (Constant (value.Number (pos 0))))
+    (FieldPermission This (name 0) (name 1) type.Int 2671465728531600 (at 212 235)) (at 212 235))
+    (When (Equal true (Variable (name 3)) (Constant (value.Number (pos 1))))
+    (FieldPermission This (name 0) (name 1) type.Int 2671465728531600 (at 251 274)) (at 251 274))))
+    (Join (Fixed (Constant (value.Number (pos 0))) (FieldPermission This (name 0) (name 1) type.Int 2671465728531600 (at 133 156))
+    (at 133 156))
+    (Join (Fixed (Constant (value.Number (pos 1))) (FieldPermission This (name 0) (name 1) type.Int 2671465728531600 (at 173 196))
+    (at 173 196)) NoItems))
+    (Join (Fixed (Constant (value.Number (pos 0))) (FieldPermission This (name 0) (name 1) type.Int 2671465728531600 (at 212 235))
+    (at 212 235))
+    (Join (Fixed (Constant (value.Number (pos 1))) (FieldPermission This (name 0) (name 1) type.Int 2671465728531600 (at 251 274))
+    (at 251 274)) NoItems))))
+    (Then (Assign (ToVariable (name 4)) (Value' (Field This (name 0) (name 1) (at 296 297))) (at 288 298)) Stop) (at 97 304))
+    (Then (Assign (ToField This (name 0) (name 1) (at 309 310)) (Value' (Constant (value.Number (pos 3)))) (at 309 315)) Stop))
+    false) ∷ [])
+
+abbrev pub divided : Program
+divided = (divided_share ∷ [])

@@ -257,3 +257,55 @@ overwritten_last = class (at 0 89) (word 0 6 10) None
 
 abbrev pub overwritten : Program
 overwritten = record { classes = (overwritten_last ∷ []); length = None }
+
+--   class Share {
+--     int v;
+--     requires Perm(v, write);
+--     ensures Perm(v, write);
+--     void share() {
+--       par (int i = 0 .. 2)
+--         requires i == 0 ==> Perm(v, 1\2);
+--         requires i == 1 ==> Perm(v, 1\2);
+--         ensures i == 0 ==> Perm(v, 1\2);
+--         ensures i == 1 ==> Perm(v, 1\2);
+--       {
+--         int x = v;
+--       }
+--       v = 3;
+--     }
+--   }
+-- names: Share 0, v 1, share 2, i 3, x 4
+abbrev pub divided_share : Class
+divided_share = class (at 0 321) (word 0 6 11) None
+    (m.Field (param (word 1 20 21) (type_at 16 19 type.Int))
+    ∷ m.Method (method (at 25 319) (word 2 83 88) None []
+    (contract ((clause c.Requires (node 34 48 (k.Perm (node 39 40 (k.Var (word 1 39 40))) 1 1 (at 42 47))))
+    ∷ (clause c.Ensures (node 60 74 (k.Perm (node 65 66 (k.Var (word 1 65 66))) 1 1 (at 68 73)))) ∷ []))
+    ((stmt 97 304 (s.Par None (range (word 3 106 107) (node 110 111 (k.Number 0)) (node 115 116 (k.Number 2)))
+    (contract
+    ((clause c.Requires
+    (node 133 156
+    (k.Binary op.Implies (node 133 139 (k.Binary op.Eq (node 133 134 (k.Var (word 3 133 134))) (node 138 139 (k.Number 0))))
+    (node 144 156 (k.Perm (node 149 150 (k.Var (word 1 149 150))) 1 2 (at 152 155))))))
+    ∷
+    (clause c.Requires
+    (node 173 196
+    (k.Binary op.Implies (node 173 179 (k.Binary op.Eq (node 173 174 (k.Var (word 3 173 174))) (node 178 179 (k.Number 1))))
+    (node 184 196 (k.Perm (node 189 190 (k.Var (word 1 189 190))) 1 2 (at 192 195))))))
+    ∷
+    (clause c.Ensures
+    (node 212 235
+    (k.Binary op.Implies (node 212 218 (k.Binary op.Eq (node 212 213 (k.Var (word 3 212 213))) (node 217 218 (k.Number 0))))
+    (node 223 235 (k.Perm (node 228 229 (k.Var (word 1 228 229))) 1 2 (at 231 234))))))
+    ∷
+    (clause c.Ensures
+    (node 251 274
+    (k.Binary op.Implies (node 251 257 (k.Binary op.Eq (node 251 252 (k.Var (word 3 251 252))) (node 256 257 (k.Number 1))))
+    (node 262 274 (k.Perm (node 267 268 (k.Var (word 1 267 268))) 1 2 (at 270 273)))))) ∷ []))
+    ((stmt 288 298 (s.Local (type_at 288 291 type.Int) (word 4 292 293)
+    (Some (right 296 297 (r.Value (node 296 297 (k.Var (word 1 296 297)))))))) ∷ [])))
+    ∷ (stmt 309 315 (s.Assign (node 309 310 (k.Var (word 1 309 310))) (right 313 314 (r.Value (node 313 314 (k.Number 3))))))
+    ∷ [])) ∷ [])
+
+abbrev pub divided : Program
+divided = record { classes = (divided_share ∷ []); length = None }

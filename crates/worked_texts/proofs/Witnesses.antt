@@ -16,4 +16,4 @@ unfolding p.type_from p.type_word p.param p.param_list p.params p.value_from p.r
     x.instance_or x.walk x.group x.amount x.bounds x.quantified x.formula_grouped x.formula_group x.logic_atom x.constant_or
     x.atom x.post x.unary x.joined_or x.joined_from x.joined_only x.product x.sum x.comparison x.equality x.conjunction x.operand
     x.expr x.rest_of_expr x.level_from x.implies_from x.formula x.deeper r.many r.series r.repeated
-witnesses_read = (refl, refl, refl, refl, refl, refl)
+witnesses_read = (refl, refl, refl, refl, refl, refl, refl)

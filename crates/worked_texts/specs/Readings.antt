@@ -52,3 +52,4 @@ WitnessesRead =
     × (program 64 None tokens_of_witnesses.list ≡ Good witnesses.list [])
     × (program 64 None tokens_of_witnesses.members_race ≡ Good witnesses.members_race [])
     × (program 64 None tokens_of_witnesses.overwritten ≡ Good witnesses.overwritten [])
+    × (program 64 None tokens_of_witnesses.divided ≡ Good witnesses.divided [])

@@ -1,7 +1,7 @@
 -- The tokens of worked programs. checks/tokens.py writes this file from the texts.
 use Rattle.std.specs.Prelude.{List, [], ◌∷◌}
 use Rattle.pv_tokens.specs.declared.Lexeme.{Lexeme}
-use Rattle.pv_tokens.specs.declared.fixed.TheConstants.{CLASS, INT, VOID, RESOURCE, REQUIRES, ENSURES, LOCK_INVARIANT, IF, FOR, PAR, BARRIER, FORK, LOCK, UNLOCK, COMMIT, FOLD, UNFOLD, SEND, RECV, NEW, NULL, THIS, PERM, WRITE, COMMITTED, RUN, IMPLIES, STAR_STAR, EQUAL, NOT_EQUAL, DOTS, OPEN_BRACE, CLOSE_BRACE, OPEN_PAREN, CLOSE_PAREN, SEMICOLON, COLON, COMMA, DOT, ASSIGN, PLUS}
+use Rattle.pv_tokens.specs.declared.fixed.TheConstants.{CLASS, INT, VOID, RESOURCE, REQUIRES, ENSURES, LOCK_INVARIANT, IF, FOR, PAR, BARRIER, FORK, LOCK, UNLOCK, COMMIT, FOLD, UNFOLD, SEND, RECV, NEW, NULL, THIS, PERM, WRITE, COMMITTED, RUN, IMPLIES, STAR_STAR, EQUAL, NOT_EQUAL, DOTS, OPEN_BRACE, CLOSE_BRACE, OPEN_PAREN, CLOSE_PAREN, SEMICOLON, COLON, COMMA, DOT, ASSIGN, PLUS, BACKSLASH}
 use Rattle.worked_texts.specs.Tokens.{named, number, fixed}
 
 abbrev pub handed : List Lexeme
@@ -110,3 +110,27 @@ overwritten =
     ∷ fixed FOR 42 45 ∷ fixed OPEN_PAREN 46 47 ∷ fixed INT 47 50 ∷ named 3 51 52 ∷ fixed ASSIGN 53 54 ∷ number 0 55 56
     ∷ fixed DOTS 57 59 ∷ number 2 60 61 ∷ fixed CLOSE_PAREN 61 62 ∷ fixed OPEN_BRACE 63 64 ∷ named 1 71 72 ∷ fixed ASSIGN 73 74
     ∷ named 3 75 76 ∷ fixed SEMICOLON 76 77 ∷ fixed CLOSE_BRACE 82 83 ∷ fixed CLOSE_BRACE 86 87 ∷ fixed CLOSE_BRACE 88 89 ∷ []
+
+abbrev pub divided : List Lexeme
+divided =
+    fixed CLASS 0 5 ∷ named 0 6 11 ∷ fixed OPEN_BRACE 12 13 ∷ fixed INT 16 19 ∷ named 1 20 21 ∷ fixed SEMICOLON 21 22
+    ∷ fixed REQUIRES 25 33 ∷ fixed PERM 34 38 ∷ fixed OPEN_PAREN 38 39 ∷ named 1 39 40 ∷ fixed COMMA 40 41 ∷ fixed WRITE 42 47
+    ∷ fixed CLOSE_PAREN 47 48 ∷ fixed SEMICOLON 48 49 ∷ fixed ENSURES 52 59 ∷ fixed PERM 60 64 ∷ fixed OPEN_PAREN 64 65
+    ∷ named 1 65 66 ∷ fixed COMMA 66 67 ∷ fixed WRITE 68 73 ∷ fixed CLOSE_PAREN 73 74 ∷ fixed SEMICOLON 74 75 ∷ fixed VOID 78 82
+    ∷ named 2 83 88 ∷ fixed OPEN_PAREN 88 89 ∷ fixed CLOSE_PAREN 89 90 ∷ fixed OPEN_BRACE 91 92 ∷ fixed PAR 97 100
+    ∷ fixed OPEN_PAREN 101 102 ∷ fixed INT 102 105 ∷ named 3 106 107 ∷ fixed ASSIGN 108 109 ∷ number 0 110 111
+    ∷ fixed DOTS 112 114 ∷ number 2 115 116 ∷ fixed CLOSE_PAREN 116 117 ∷ fixed REQUIRES 124 132 ∷ named 3 133 134
+    ∷ fixed EQUAL 135 137 ∷ number 0 138 139 ∷ fixed IMPLIES 140 143 ∷ fixed PERM 144 148 ∷ fixed OPEN_PAREN 148 149
+    ∷ named 1 149 150 ∷ fixed COMMA 150 151 ∷ number 1 152 153 ∷ fixed BACKSLASH 153 154 ∷ number 2 154 155
+    ∷ fixed CLOSE_PAREN 155 156 ∷ fixed SEMICOLON 156 157 ∷ fixed REQUIRES 164 172 ∷ named 3 173 174 ∷ fixed EQUAL 175 177
+    ∷ number 1 178 179 ∷ fixed IMPLIES 180 183 ∷ fixed PERM 184 188 ∷ fixed OPEN_PAREN 188 189 ∷ named 1 189 190
+    ∷ fixed COMMA 190 191 ∷ number 1 192 193 ∷ fixed BACKSLASH 193 194 ∷ number 2 194 195 ∷ fixed CLOSE_PAREN 195 196
+    ∷ fixed SEMICOLON 196 197 ∷ fixed ENSURES 204 211 ∷ named 3 212 213 ∷ fixed EQUAL 214 216 ∷ number 0 217 218
+    ∷ fixed IMPLIES 219 222 ∷ fixed PERM 223 227 ∷ fixed OPEN_PAREN 227 228 ∷ named 1 228 229 ∷ fixed COMMA 229 230
+    ∷ number 1 231 232 ∷ fixed BACKSLASH 232 233 ∷ number 2 233 234 ∷ fixed CLOSE_PAREN 234 235 ∷ fixed SEMICOLON 235 236
+    ∷ fixed ENSURES 243 250 ∷ named 3 251 252 ∷ fixed EQUAL 253 255 ∷ number 1 256 257 ∷ fixed IMPLIES 258 261
+    ∷ fixed PERM 262 266 ∷ fixed OPEN_PAREN 266 267 ∷ named 1 267 268 ∷ fixed COMMA 268 269 ∷ number 1 270 271
+    ∷ fixed BACKSLASH 271 272 ∷ number 2 272 273 ∷ fixed CLOSE_PAREN 273 274 ∷ fixed SEMICOLON 274 275 ∷ fixed OPEN_BRACE 280 281
+    ∷ fixed INT 288 291 ∷ named 4 292 293 ∷ fixed ASSIGN 294 295 ∷ named 1 296 297 ∷ fixed SEMICOLON 297 298
+    ∷ fixed CLOSE_BRACE 303 304 ∷ named 1 309 310 ∷ fixed ASSIGN 311 312 ∷ number 3 313 314 ∷ fixed SEMICOLON 314 315
+    ∷ fixed CLOSE_BRACE 318 319 ∷ fixed CLOSE_BRACE 320 321 ∷ []

@@ -5,6 +5,8 @@ mod Relay
 mod RelayFormed
 mod Posted
 mod PostedFormed
+mod Divided
+mod DividedFormed
 mod ListNode
 mod ListFormed
 mod Verified

@@ -1,6 +1,6 @@
 -- Rows of the judge on a state of which only what they look at is known.
 use Rattle.std.proofs.Common.{◌≡◌, ℕ, zero, suc, ℤ, pos, negsuc, Bool, true, false, Option, Some, None, List, refl, arith}
-use Rattle.std.specs.Prelude.{int_le, int_lt, nat_eq, not, if◌then◌else◌}
+use Rattle.std.specs.Prelude.{◌+◌, int_le, int_lt, nat_eq, nat_le, not, if◌then◌else◌}
 use Rattle.std.proofs.lemmas.Bool.{and_parts}
 use Rattle.std.proofs.lemmas.Int.{ints}
 use Rattle.pv_base.specs.declared.Name.{Name}
@@ -12,11 +12,11 @@ use Rattle.pv_picks.specs.declared.evidence.Entry.{Entry}
 use Rattle.pv_picks.specs.declared.unit.Part.{Part}
 use Rattle.pv_picks.specs.declared.unit.PvUnit.{PvUnit}
 use Rattle.pv_picks.specs.Formulas.Values.{within}
-use Rattle.pv_picks.specs.Judge.States.{State, Folded, Cell, Written, InField, cells_of, empty_state, with_cell, with_met, with_instances}
+use Rattle.pv_picks.specs.Judge.States.{State, Folded, Cell, Written, InField, amount_of, cells_of, empty_state, with_amount, with_cell, with_met, with_instances}
 use Rattle.pv_picks.specs.Judge.Settings.{Next, or_missing}
 use Rattle.pv_picks.specs.Judge.Permissions.{gain_field, or_short}
 use Rattle.pv_picks.specs.Judge.Runs.{Maps, Judged, blocked, judging}
-use Rattle.worked_forms.proofs.Safely.{Safe, blocks, picked, signed, tested, failed}
+use Rattle.worked_forms.proofs.Safely.{Safe, blocks, picked, signed, tested, passed, failed}
 
 -- the part of the class at a place
 abbrev pub unit : ℕ → Part → PvUnit
@@ -30,12 +30,28 @@ abbrev pub remembered : State → State
 remembered s = record s { old = cells_of s }
 
 module _ (maps : Maps) (table : List Entry) where
-  -- the whole of a field of which nothing was held, with any number in it
+  -- so much of a field of which nothing was held, with any number in it
+  pub gains_part : (class : Name) (object : ℕ) (name : Name) (amount : ℕ) (next : Next Judged) (s : State)
+      → nat_eq object 0 ≡ false → s.held (InField class object name) ≡ None → nat_le (0 + amount) whole ≡ true
+      → ((z : ℤ) → Safe (next (with_cell s (InField class object name) amount (value.Number z))))
+      → Safe (gain_field (judging maps table) class object name type.Int amount next s)
+  gains_part class object name amount next s there none fits h =
+      failed (nat_eq object 0) _ _ there (rw (none) (passed (nat_le (0 + amount) whole) _ _ fits (picked h)))
+
+  -- the whole of it
   pub gains : (class : Name) (object : ℕ) (name : Name) (next : Next Judged) (s : State) → nat_eq object 0 ≡ false
       → s.held (InField class object name) ≡ None
       → ((z : ℤ) → Safe (next (with_cell s (InField class object name) whole (value.Number z))))
       → Safe (gain_field (judging maps table) class object name type.Int whole next s)
-  gains class object name next s there none h = failed (nat_eq object 0) _ _ there (rw (none) (picked h))
+  gains class object name next s there none h = gains_part class object name whole next s there none refl h
+
+  -- more of a field of which something is held
+  pub gains_more : (class : Name) (object : ℕ) (name : Name) (had amount : ℕ) (next : Next Judged) (s : State)
+      → nat_eq object 0 ≡ false → amount_of s (InField class object name) ≡ suc had
+      → nat_le (suc had + amount) whole ≡ true → Safe (next (with_amount s (InField class object name) (suc had + amount)))
+      → Safe (gain_field (judging maps table) class object name type.Int amount next s)
+  gains_more class object name had amount next s there is fits h =
+      failed (nat_eq object 0) _ _ there (rw (is) (passed (nat_le (suc had + amount) whole) _ _ fits h))
 
   -- a reference is picked for a field
   pub gains_reference : (class : Name) (object : ℕ) (name of : Name) (next : Next Judged) (s : State) → nat_eq object 0 ≡ false

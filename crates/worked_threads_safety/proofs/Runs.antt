@@ -5,9 +5,9 @@ use Rattle.pv_values.specs.declared.value.Location.TheVariants.{Field}
 use Rattle.pv_values.specs.Heaps.{same_location}
 use Rattle.pv_picks.specs.Machine.Starts.{IsStart}
 use Rattle.worked_programs.specs.Nodes.{name as named}
-use Rattle.worked_programs.specs.CoreWitnesses.{handed, relay, posted, list}
+use Rattle.worked_programs.specs.CoreWitnesses.{divided, handed, relay, posted, list}
 use Rattle.worked_threads_safety.specs.Wrong.{from_zero}
-use Rattle.worked_threads_safety.specs.Runs.{from_main, LockIsHandedOn, FieldIsRelayed, FieldIsSent, ListIsGoneThrough}
+use Rattle.worked_threads_safety.specs.Runs.{from_main, LockIsHandedOn, FieldIsRelayed, FieldIsSent, FieldIsDivided, ListIsGoneThrough}
 use Rattle.worked_threads_safety.proofs.Starts.{one_typed, none_typed}
 
 no_more : (b : Bool) → (if b then whole else 0) ≤ whole
@@ -61,6 +61,21 @@ posted_starts = record {
   met = refl;
   fit = λ spot. no_more (same_location (Field 1 (named 1)) spot);
 }
+
+divided_starts : IsStart divided (from_zero divided)
+divided_starts = record {
+  typed = one_typed divided (named 0) (named 1) refl (λ n h. h);
+  object = refl;
+  name = named 2;
+  declared = refl;
+  arguments = tt;
+  plain = refl;
+  met = refl;
+  fit = λ spot. no_more (same_location (Field 1 (named 1)) spot);
+}
+
+pub divided_runs : FieldIsDivided
+divided_runs = (divided_starts, (refl, refl))
 
 pub handed_runs : LockIsHandedOn
 handed_runs = (handed_starts, refl, refl, (refl, refl))

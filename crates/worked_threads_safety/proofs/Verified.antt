@@ -6,11 +6,13 @@ use Rattle.worked_trees.proofs.Witnesses.{witnesses_become}
 use Rattle.machine_loops.proofs.Programs.{passed}
 use Rattle.soundness.proofs.Runs.{safe}
 use Rattle.worked_forms.proofs.Safely.{verified_as, never_fails}
-use Rattle.worked_threads_safety.specs.Verified.{HandedIsVerified, ListIsVerified, PostedIsVerified, RelayIsVerified, HandedPasses, RelayPasses, PostedPasses, ListPasses}
+use Rattle.worked_threads_safety.specs.Verified.{HandedIsVerified, ListIsVerified, PostedIsVerified, RelayIsVerified, HandedPasses, RelayPasses, PostedPasses, ListPasses, DividedIsVerified, DividedPasses}
 use Rattle.worked_threads_safety.proofs.Rows.{unit}
 use Rattle.worked_threads_safety.proofs.Handed.{invariant_safe, run_safe, main_safe}
 use Rattle.worked_threads_safety.proofs.Relay.{relay_safe}
 use Rattle.worked_threads_safety.proofs.Posted.{post_safe}
+use Rattle.worked_threads_safety.proofs.Divided.{share_safe}
+use Rattle.worked_threads_safety.proofs.DividedFormed.{divided_formed}
 use Rattle.worked_threads_safety.proofs.ListNode.{list_safe, up_safe, two_safe}
 use Rattle.worked_threads_safety.proofs.HandedFormed.{handed_formed}
 use Rattle.worked_threads_safety.proofs.RelayFormed.{relay_formed}
@@ -53,3 +55,11 @@ list_verified =
 
 pub list_passes : ListPasses
 list_passes = passed safe trees.list list_formed list_verified
+
+pub divided_verified : DividedIsVerified
+divided_verified =
+    verified_as trees.divided cores.divided witnesses_become.6
+    (never_fails cores.divided (unit 0 (part.Member 1)) share_safe, tt)
+
+pub divided_passes : DividedPasses
+divided_passes = passed safe trees.divided divided_formed divided_verified

@@ -11,7 +11,7 @@ use Rattle.pv_picks.specs.Machine.Steps.{Result, act}
 use Rattle.pv_picks.specs.Machine.Starts.{Start, IsStart}
 use Rattle.pv_picks.specs.Machine.Safety.{may_step}
 use Rattle.worked_programs.specs.Nodes.{name}
-use Rattle.worked_programs.specs.CoreWitnesses.{handed, relay, posted, list}
+use Rattle.worked_programs.specs.CoreWitnesses.{divided, handed, relay, posted, list}
 use Rattle.worked_runs.specs.Runs.{starts, from}
 use Rattle.worked_runs.specs.Schedules.{Ran, go, rest, all_ended, values_at}
 use Rattle.worked_threads_safety.specs.Wrong.{from_zero}
@@ -51,6 +51,12 @@ FieldIsRelayed =
 abbrev pub FieldIsSent : Type 0
 FieldIsSent =
     IsStart posted (from_zero posted) × EndsWith posted (from (from_zero posted)) (Field 1 (name 1) ∷ []) (number 2 ∷ [])
+
+-- both members read the field, and the method writes it
+abbrev pub FieldIsDivided : Type 0
+FieldIsDivided =
+    IsStart divided (from_zero divided)
+    × EndsWith divided (from (from_zero divided)) (Field 1 (name 1) ∷ []) (number 3 ∷ [])
 
 -- each of the two nodes is counted up
 abbrev pub ListIsGoneThrough : Type 0

@@ -2,7 +2,7 @@
 -- and
 -- so they are safe and agree on their loops.
 use Rattle.pv_picks.specs.Verdicts.Theorems.{IsVerified, IsPassed}
-use Rattle.worked_programs.specs.Witnesses.{handed, relay, posted, list}
+use Rattle.worked_programs.specs.Witnesses.{divided, handed, relay, posted, list}
 
 -- an object whose lock goes from one thread to another
 abbrev pub HandedIsVerified : Type 0
@@ -31,3 +31,10 @@ ListIsVerified = IsVerified list
 
 abbrev pub ListPasses : Type 0
 ListPasses = IsPassed list
+
+-- a par block whose members read one field, with half of it each
+abbrev pub DividedIsVerified : Type 0
+DividedIsVerified = IsVerified divided
+
+abbrev pub DividedPasses : Type 0
+DividedPasses = IsPassed divided

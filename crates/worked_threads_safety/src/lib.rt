@@ -2,9 +2,9 @@
 //! the judge fail, and two that aren't safe, on which some does. Each function proves its clauses and answers nothing.
 #![tactic(auto)]
 
-ghost use Rattle.worked_threads_safety.specs.Verified.{HandedIsVerified, ListIsVerified, PostedIsVerified, RelayIsVerified};
-ghost use Rattle.worked_threads_safety.specs.Verified.{HandedPasses, ListPasses, PostedPasses, RelayPasses};
-ghost use Rattle.worked_threads_safety.specs.Runs.{FieldIsRelayed, FieldIsSent, ListIsGoneThrough, LockIsHandedOn};
+ghost use Rattle.worked_threads_safety.specs.Verified.{DividedIsVerified, HandedIsVerified, ListIsVerified, PostedIsVerified, RelayIsVerified};
+ghost use Rattle.worked_threads_safety.specs.Verified.{DividedPasses, HandedPasses, ListPasses, PostedPasses, RelayPasses};
+ghost use Rattle.worked_threads_safety.specs.Runs.{FieldIsDivided, FieldIsRelayed, FieldIsSent, ListIsGoneThrough, LockIsHandedOn};
 ghost use Rattle.worked_threads_safety.specs.Wrong.{MembersRace, MembersAreNotSafe, MembersAreNotVerified};
 ghost use Rattle.worked_threads_safety.specs.Wrong.{OverwrittenDisagrees, OverwrittenIsNotVerified};
 
@@ -31,6 +31,14 @@ pub fn a_field_is_sent()
     ensures verified { PostedIsVerified }
     ensures passes { PostedPasses }
     ensures runs { FieldIsSent }
+{}
+
+/// A par block whose members read one field, with half of it each, and a write behind it: no evidence makes the judge fail, no
+/// interleaving goes wrong, and a run from a start comes to its end.
+pub fn a_field_is_divided()
+    ensures verified { DividedIsVerified }
+    ensures passes { DividedPasses }
+    ensures runs { FieldIsDivided }
 {}
 
 /// A list that is gone through by a recursive predicate and a recursive method: no evidence makes the judge fail, no run goes wrong,

@@ -94,6 +94,24 @@ members_race_becomes = simp (expression_rule, formulas_rule, all_items_rule, num
 overwritten_becomes : core_of trees.overwritten ≡ core.overwritten
 overwritten_becomes = simp (expression_rule, formulas_rule, all_items_rule, number_node, var_node, assign_stmt, for_stmt) refl
 
+divided_becomes : core_of trees.divided ≡ core.divided
+divided_becomes = simp (
+  expression_rule,
+  formula_rule,
+  items_rule,
+  old_rule,
+  right_rule,
+  formulas_rule,
+  all_items_rule,
+  number_node,
+  var_node,
+  binary_node,
+  perm_node,
+  local_stmt,
+  assign_stmt,
+  par_stmt,
+) refl
+
 pub witnesses_become : WitnessesBecome
 witnesses_become = (
   handed_becomes,
@@ -102,4 +120,5 @@ witnesses_become = (
   list_becomes,
   members_race_becomes,
   overwritten_becomes,
+  divided_becomes,
 )

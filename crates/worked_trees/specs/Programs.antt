@@ -51,3 +51,4 @@ WitnessesBecome =
     × (core_of witnesses.list ≡ core_witnesses.list)
     × (core_of witnesses.members_race ≡ core_witnesses.members_race)
     × (core_of witnesses.overwritten ≡ core_witnesses.overwritten)
+    × (core_of witnesses.divided ≡ core_witnesses.divided)
