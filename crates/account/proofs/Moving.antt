@@ -159,7 +159,8 @@ settles p flags heap f h r s still body done stood messages = record {
 pub settled_leaves_not : (p : Program) (flags : ℕ → Bool) (heap : Heap) (h : Frame) (s : Run)
     → (done : Goes p flags heap (settled h) s) → (barrier : Barrier) (span : Span) (ts : List Task)
     → (settled h).tasks ≡ Stand (AtLeave barrier span) ∷ ts → ⊥
-settled_leaves_not p flags heap h s done = leaves_not (standing_in p (settled h).class done.run.body done.run.outer) done.run.inner
+settled_leaves_not p flags heap h s done = leaves_not (standing_in p (settled h).class done.run.body done.run.outer)
+    done.run.inner
     done.run.scope done.run.given done.run.stack (settled h) done.says
 
 -- owners where a thread has other runs, and objects other amounts
@@ -210,7 +211,8 @@ module _ (p : Program) (flags : ℕ → Bool) (heap later : Heap) (count : ℕ) 
     }
 
     pub roles_moved : (state : ℕ → ThreadState)
-        → ((j : ℕ) → j < count → RoleFits p flags heap state j (threads j).role (threads j).frames (o.runs j)) → (j : ℕ) → j < count
+        → ((j : ℕ) → j < count → RoleFits p flags heap state j (threads j).role (threads j).frames (o.runs j)) → (j : ℕ)
+        → j < count
         → RoleFits p flags later state j (threads_with j).role (threads_with j).frames (at_number i runs o.runs j)
     roles_moved state fits j l = each (λ k t x. k < count → RoleFits p flags later state k t.role t.frames x)
         (λ n. role_stays p flags later state i (threads i).frames frames (o.runs i) runs m.bottom (threads i).role
@@ -343,7 +345,8 @@ module _ (p : Program) (flags : ℕ → Bool) (heap later : Heap) (count : ℕ) 
 
           pub blocks_moved : (mail : ℕ → Mail) (promise guard : ℕ → Amounts)
               → BlocksFit p flags heap count threads block_count blocks o
-              → BlocksFit p flags later count threads_with block_count blocks (with_lying (owners_with o i runs promise guard) left mail)
+              → BlocksFit p flags later count threads_with block_count blocks
+              (with_lying (owners_with o i runs promise guard) left mail)
           blocks_moved mail promise guard fits = record {
             openers = λ j l g gs s ss b rest. each
                 (λ k t x. k < count → t.frames ≡ g ∷ gs → x ≡ s ∷ ss → g.tasks ≡ Stand (AtClose b) ∷ rest

@@ -14,6 +14,7 @@ use Rattle.pv_picks.specs.Machine.Worlds.{ThreadState, World, with_frames, with_
 use Rattle.pv_picks.proofs.Sames.{naturals_same}
 use Rattle.account_formulas.specs.Owning.{Amounts, IsPlaced, KeepsHeld, KeepsOwning}
 use Rattle.account_formulas.proofs.Basics.{nat_self, at_most, is_at_most}
+use Rattle.account_formulas.proofs.Picking.{beyond_it}
 use Rattle.account.specs.Frames.{Run, all_of, AreRunsOf}
 use Rattle.account.specs.Owners.{Owners, nothing, sum_below, lies_at, at_thread, at_object, total, SumsFit, LocksFit}
 use Rattle.account.specs.Objects.{ObjectsFit}
@@ -79,11 +80,6 @@ up_to_none count A x q above = go (nat_le x count) refl
 
 apart_as : (n m : ℕ) → nat_eq n m ≡ false → n ≡ m → ⊥
 apart_as n m e k = let self = nat_self m in let same = subst (λ z. nat_eq z m ≡ true) (sym k) self in absurd (cc (e, same))
-
-beyond_it : (a b : ℕ) → (a ≤ b → ⊥) → b < a
-beyond_it zero b f = absurd (f (omega arith))
-beyond_it (suc a) zero f = omega arith
-beyond_it (suc a) (suc b) f = let k = beyond_it a b (λ h. f (omega (arith, h))) in omega (arith, k)
 
 not_above : (a b : ℕ) → nat_le a b ≡ false → b < a
 not_above a b e = beyond_it a b (λ h. let k = is_at_most a b h in absurd (cc (e, k)))
@@ -220,7 +216,8 @@ module _ (p : Program) (w : World) (a : Account p w) (i : ℕ) (inside : i < w.c
       class_before zero class e is = m.null class is
       class_before (suc x) class e is = m.grown.class x class is (at_most (suc x) w.heap.count e)
 
-      go_promise : (x : ℕ) (class : Name) (d : Method) → x < suc later.count → later.class x ≡ Some class → run_of p class ≡ Some d
+      go_promise : (x : ℕ) (class : Name) (d : Method) → x < suc later.count → later.class x ≡ Some class → run_of p class
+          ≡ Some d
           → w.state x ≡ ThreadState.Ended → (b : Bool) → nat_le x w.heap.count ≡ b
           → KeepsOwning p w.committed later (outer_scene x [] []) d.contract.after
           (λ q. if b then a.owners.promise x q else 0)
@@ -229,9 +226,11 @@ module _ (p : Program) (w : World) (a : Account p w) (i : ℕ) (inside : i < w.c
           owning_later p w.committed w.heap later (outer_scene x [] []) d.contract.after (a.owners.promise x)
           (keeps_object (a.owners.promise x) x (omega (arith, l)) (λ q. omega arith))
           (a.objects.promises x class d (omega (arith, l)) (class_before x class e is) run ended)
-      go_promise x class d below is run ended false e = absurd ((m.new.object class x (not_above x w.heap.count e) below is).0 ended)
+      go_promise x class d below is run ended false e =
+          absurd ((m.new.object class x (not_above x w.heap.count e) below is).0 ended)
 
-      go_guard : (x : ℕ) (class : Name) (f : Formula) → x < suc later.count → later.class x ≡ Some class → invariant_of p class ≡ Some f
+      go_guard : (x : ℕ) (class : Name) (f : Formula) → x < suc later.count → later.class x ≡ Some class → invariant_of p class
+          ≡ Some f
           → w.committed x ≡ true → w.holder x ≡ None → (b : Bool) → nat_le x w.heap.count ≡ b
           → KeepsOwning p w.committed later (outer_scene x [] []) f (λ q. if b then a.owners.guard x q else 0)
       go_guard x class f below is inv flag free true e =
@@ -239,7 +238,8 @@ module _ (p : Program) (w : World) (a : Account p w) (i : ℕ) (inside : i < w.c
           owning_later p w.committed w.heap later (outer_scene x [] []) f (a.owners.guard x)
           (keeps_object (a.owners.guard x) x (omega (arith, l)) (λ q. omega arith))
           (a.objects.guards x class f (omega (arith, l)) (class_before x class e is) inv flag free)
-      go_guard x class f below is inv flag free false e = absurd ((m.new.object class x (not_above x w.heap.count e) below is).1 flag)
+      go_guard x class f below is inv flag free false e =
+          absurd ((m.new.object class x (not_above x w.heap.count e) below is).1 flag)
 
   pub accounted : Account p (with_heap (with_frames w i frames) later)
   accounted = record {

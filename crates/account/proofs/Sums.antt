@@ -80,13 +80,6 @@ at_same i x f = ap (λ b. if b then x else f i) (nat_self i)
 pub at_other : {A : Type 0} (i j : ℕ) (x : A) (f : ℕ → A) → nat_eq j i ≡ false → at_number i x f j ≡ f j
 at_other i j x f e = ap (λ b. if b then x else f j) e
 
--- two parts are at most the sum
-pub two_parts : (f : ℕ → ℕ) (n i j : ℕ) → i < n → j < n → nat_eq j i ≡ false → f i + f j ≤ sum_below f n
-two_parts f n i j l m e =
-    let k = sum_changed f (at_number i 0 f) n i l (λ x h. at_other i x 0 f h) in
-    let z = at_same i 0 f in let y = at_other i j 0 f e in let s = part_of (at_number i 0 f) n j m in
-    omega (arith, k, z, y, s)
-
 module _ (o : Owners) (threads objects : ℕ) (q : Resource) where
   -- a thread's runs are others
   pub total_with_runs : (i : ℕ) → i < threads → (runs : List Run)

@@ -44,7 +44,8 @@ use Rattle.account.proofs.Typing.{arguments_typed, object_typed}
 use Rattle.account.proofs.Working.{NeverOn, TurnsAround}
 use Rattle.account.proofs.LocalWork.{named_so}
 use Rattle.account_accesses.specs.Statements.{FoldKeeps}
-use Rattle.account_accesses.proofs.Acting.{acts, steps_here, runs_at_most}
+use Rattle.account.proofs.Stepping.{own_most}
+use Rattle.account_accesses.proofs.Acting.{acts, steps_here}
 use Rattle.account_accesses.proofs.Reading.{tested, fails, not_null_of}
 use Rattle.account_accesses.proofs.Speaking.{left_goes}
 
@@ -150,7 +151,7 @@ fold_keeps class predicate count span p w support a i f below rest at mode =
         }
 
         most : (q : Resource) → amounts_of r q ≤ whole
-        most q = let one = runs_at_most p w a i inside q in let same = ap (λ l. all_of l q) had in omega (arith, one, same)
+        most q = let one = own_most p w a i inside (r ∷ rs) had q in omega (arith, one)
 
         done : nat_eq (object_under count f.values) 0 ≡ false
             → RestNeverFails r.taken (λ maps. fold_in (truly maps) (Some s.body) class (object_under count f.values)

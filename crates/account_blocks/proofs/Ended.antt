@@ -43,7 +43,8 @@ module _ (p : Program) (w : World) (a : Account p w) (i : ℕ) (inside : i < w.c
       arrived = λ c position is' h q qs barrier span others e. absurd (cc e);
     };
     there = λ j l c position is' label some was. a.mail.there j l c position is' label
-        (still_receives p w.committed w.heap w.heap w.count w.threads a.owners i (others_here w.heap w.count a.owners i) [] [] goes
+        (still_receives p w.committed w.heap w.heap w.count w.threads a.owners i (others_here w.heap w.count a.owners i) [] []
+        goes
         j label some) was;
   })
     where

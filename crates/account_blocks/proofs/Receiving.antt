@@ -1,5 +1,5 @@
 -- A member that stands at a receive in an accounted world: it waits, or goes on with what was sent.
-use Rattle.std.proofs.Common.{◌≡◌, ℕ, ◌+◌, ◌≤◌, ◌<◌, ℤ, pos, Bool, true, false, not, if◌then◌else◌, Some, List, [], ◌∷◌, refl, ap, sym, subst, ◌∙◌, arith}
+use Rattle.std.proofs.Common.{◌≡◌, ℕ, ◌+◌, ◌≤◌, ◌<◌, ℤ, pos, Bool, true, false, if◌then◌else◌, Some, List, [], ◌∷◌, refl, ap, sym, subst, ◌∙◌, arith}
 use Rattle.std.specs.Prelude.{nat_eq, int_le, ◌-ℤ◌}
 use Rattle.std.proofs.lemmas.Option.{none-some}
 use Rattle.pv_base.specs.declared.Name.{Name}
@@ -15,8 +15,8 @@ use Rattle.pv_picks.specs.Formulas.Meeting.{at}
 use Rattle.pv_picks.specs.Judge.States.{Resource, OfLock}
 use Rattle.pv_picks.specs.Machine.Tasks.{AtReceive, Task, Stand}
 use Rattle.pv_picks.specs.Machine.Frames.{Frame, goes_on, settled, only_now}
-use Rattle.pv_picks.specs.Machine.Worlds.{MemberOf, Mode, World, is_held_back, with_frames}
-use Rattle.pv_picks.specs.Machine.Steps.{Result, partner_if, sender_of, needs, waits_unless, as_member, act_receive, act, act_frames, act_tasks}
+use Rattle.pv_picks.specs.Machine.Worlds.{MemberOf, Mode, World, with_frames}
+use Rattle.pv_picks.specs.Machine.Steps.{Result, partner_if, sender_of, needs, waits_unless, as_member, act_receive, act, act_tasks}
 use Rattle.pv_picks.specs.Typing.Expressions.{silent, type_in}
 use Rattle.pv_picks.specs.Formulas.Values.{number_in}
 use Rattle.core_trees.specs.Formulas.{MessageFits}
@@ -39,6 +39,7 @@ use Rattle.account.specs.Scoped.{TasksSay}
 use Rattle.account.specs.Going.{Goes}
 use Rattle.account.proofs.Exchanging.{settled_exchanges}
 use Rattle.account.proofs.Sums.{sum_less}
+use Rattle.account.proofs.Stepping.{by_run}
 use Rattle.account_blocks.proofs.Moving.{moved}
 use Rattle.account_blocks.proofs.Sites.{site_scene, site_fits, at_own, at_a_receive}
 use Rattle.account_blocks.proofs.Messages.{is_some_distance, Received, receives, receives_none}
@@ -256,7 +257,7 @@ module _ (p : Program) (w : World) (a : Account p w) (sound : HeapFits p w.heap)
             let d = after.less q in omega (arith, runs, mine, d)
 
   pub receive_keeps : (mode : Mode) → Kept p (act p w mode i)
-  receive_keeps mode = subst (λ fs. Kept p (act_frames p w mode i fs)) (sym stack) (held (not (is_held_back w i))
+  receive_keeps mode = by_run p w a i inside f [] stack mode (λ r rs e fits.
       (subst (λ ts. Kept p (act_tasks p w i f [] mode ts)) (sym is)
       (subst (λ t. Kept p (needs t check.Send span (as_member p w i f [] (w.threads i).role [] check.Send span
       (λ block position. act_receive p w i f [] (sender_of (w.blocks block) position m) block (position -ℤ pos m.distance) m
@@ -267,10 +268,6 @@ module _ (p : Program) (w : World) (a : Account p w) (sound : HeapFits p w.heap)
       rest)))
       (sym role) (by_test (int_le (w.blocks b).low sender) refl)))))
     where
-      held : (x : Bool) → Kept p (act_tasks p w i f [] mode f.tasks) → Kept p (waits_unless x (act_tasks p w i f [] mode f.tasks))
-      held true h = h
-      held false h = tt
-
       by_sent : int_le (w.blocks b).low sender ≡ true → (y : Bool) → (w.blocks b).sent m.label sender ≡ y
           → Kept p (waits_unless y (Result.Went (with_frames w i (behind ∷ []))))
       by_sent e true s = got_letter e s

@@ -175,9 +175,11 @@ module _ (p : Program) (verified : IsVerifiedThroughout p) (w : World) (sound : 
         );
         goes = first_goes_on w.threads a.owners i f below stands_at r rs has (settled Behind) go.run
             (settles p w.committed (Later size) f Behind r run
-            (record { class = refl; method = refl; this = refl; begun = refl; old = refl }) refl go (λ b ts at. absurd (cc (is, at)))
+            (record { class = refl; method = refl; this = refl; begun = refl; old = refl }) refl go
+            (λ b ts at. absurd (cc (is, at)))
             (λ S R h. (subst (λ ts. TasksExchange S R ts) is h).1));
-        leaves = leaves_nothing p w.committed (Later size) (w.threads i).role w.blocks a.owners (settled Behind) below (go.run ∷ rs)
+        leaves = leaves_nothing p w.committed (Later size) (w.threads i).role w.blocks a.owners (settled Behind) below
+            (go.run ∷ rs)
             (a.owners.left i) (settled_leaves_not p w.committed (Later size) Behind run go);
         fresh = new_amounts type (suc w.heap.count) size;
         less = λ q. let l = go.less q in let m = made_amount r.state type (suc w.heap.count) size q in
@@ -265,6 +267,4 @@ module _ (p : Program) (verified : IsVerifiedThroughout p) (w : World) (sound : 
 
   pub array_keeps : (mode : Mode) → Kept p (act p w mode i)
   array_keeps mode = by_run p w a i inside f below stands_at mode (λ r rs has fits.
-      subst (λ ts. Kept p (act_tasks p w i f below mode ts)) (sym is) (array_by mode r rs has
-      (subst (λ z. AreRunsOf p w.committed w.heap (f ∷ below) z) has
-      (subst (λ z. AreRunsOf p w.committed w.heap z (a.owners.runs i)) stands_at (a.threads.frames i inside)))))
+      subst (λ ts. Kept p (act_tasks p w i f below mode ts)) (sym is) (array_by mode r rs has fits))

@@ -148,7 +148,8 @@ module _ (p : Program) (verified : IsVerifiedThroughout p) (w : World) (sound : 
         );
         goes = first_goes_on w.threads a.owners i f below stands_at r rs has (settled Behind) go.run
             (settles p w.committed Later f Behind r (run_with r s)
-            (record { class = refl; method = refl; this = refl; begun = refl; old = refl }) refl go (λ b ts at. absurd (cc (is, at)))
+            (record { class = refl; method = refl; this = refl; begun = refl; old = refl }) refl go
+            (λ b ts at. absurd (cc (is, at)))
             (λ S R h. (subst (λ ts. TasksExchange S R ts) is h).1));
         leaves = leaves_nothing p w.committed Later (w.threads i).role w.blocks a.owners (settled Behind) below (go.run ∷ rs)
             (a.owners.left i) (settled_leaves_not p w.committed Later Behind (run_with r s) go);
@@ -224,6 +225,4 @@ module _ (p : Program) (verified : IsVerifiedThroughout p) (w : World) (sound : 
 
   pub object_keeps : (mode : Mode) → Kept p (act p w mode i)
   object_keeps mode = by_run p w a i inside f below stands_at mode (λ r rs has fits.
-      subst (λ ts. Kept p (act_tasks p w i f below mode ts)) (sym is) (object_by mode r rs has
-      (subst (λ z. AreRunsOf p w.committed w.heap (f ∷ below) z) has
-      (subst (λ z. AreRunsOf p w.committed w.heap z (a.owners.runs i)) stands_at (a.threads.frames i inside)))))
+      subst (λ ts. Kept p (act_tasks p w i f below mode ts)) (sym is) (object_by mode r rs has fits))

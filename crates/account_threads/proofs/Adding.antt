@@ -18,14 +18,8 @@ use Rattle.account.specs.Objects.{AtBottom, RoleFits}
 use Rattle.account.specs.Blocks.{scene_at, WaitsForMembers, IsMember, HasArrived, MemberRuns}
 use Rattle.account.specs.Messages.{TasksExchange, bottom_tasks, IsKnown, ReceivesNone, Lies}
 use Rattle.account.proofs.Sums.{below_other, sum_same}
+use Rattle.account.proofs.Numbers.{other_number}
 use Rattle.account.proofs.Moving.{Families}
-
-pub other_number : (j n : ℕ) → j < n → nat_eq j n ≡ false
-other_number j n l = go (nat_eq j n) refl
-  where
-    go : (b : Bool) → nat_eq j n ≡ b → b ≡ false
-    go false e = refl
-    go true e = let same = naturals_same j n e in absurd (omega (arith, same, l))
 
 -- owners with one thread more, at which nothing lies
 abbrev pub with_more : Owners → ℕ → List account.Run → Owners

@@ -36,7 +36,8 @@ module _ (p : Program) (flags : ℕ → Bool) (heap : Heap) (sound : HeapFits p 
       → AllWait p flags heap (called_of f r) below rs → (promise guard : ℕ → Amounts)
       → Families p flags heap count threads block_count blocks state o
       → Families p flags heap count
-      (at_number i (record { role = (threads i).role; frames = settled (pops 1 f rest) ∷ below }) threads) block_count blocks state
+      (at_number i (record { role = (threads i).role; frames = settled (pops 1 f rest) ∷ below }) threads) block_count blocks
+      state
       (owners_with o i (done.run ∷ rs) promise guard)
   families_go done count threads block_count blocks state o i below stack rs has_runs waits promise guard =
       families_moved p flags heap heap count threads o i (others_here heap count o i) (settled (pops 1 f rest) ∷ below)
