@@ -19,6 +19,7 @@ use Rattle.pv_picks.specs.Judge.UnitRuns.{OfMethod, go_on, judge_task}
 use Rattle.pv_picks.specs.Typing.Expressions.{silent}
 use Rattle.pv_picks.specs.Typing.Blocks.{types_of, over, gives, MethodFits}
 use Rattle.pv_picks.specs.Typing.Frames.{HasType, VariablesFit, ResultFits}
+use Rattle.machine_laws.proofs.Kept.{first_result, result_given}
 use Rattle.core_trees.specs.Assigned.{AssignsOnly, BlockAssigns}
 use Rattle.core_trees.specs.Formulas.{in_class, MethodSays}
 use Rattle.account_formulas.specs.Sights.{SceneFits}
@@ -37,16 +38,6 @@ use Rattle.account.specs.Going.{body_of, first_frame, Begins}
 use Rattle.account.proofs.Choosing.{never_turn}
 use Rattle.account.proofs.Framing.{begun_with, picking_all, variables_fit, outer_fits}
 use Rattle.account.proofs.LocalWork.{settled_goes, called_settled}
-
-first_result : (heap : Heap) (r : Option PvType) → ResultFits heap (Some (unwrap_or r Null)) (is_none r) no_value
-first_result heap None g type e = subst (λ t. HasType heap t no_value) (same_Some Null type e) tt
-first_result heap (Some t) g type e = absurd (cc g)
-
-result_given : (r : Option PvType) (b : Bool) → ((type : PvType) → r ≡ Some type → b ≡ true) → (b || is_none r) ≡ true
-result_given None true f = refl
-result_given None false f = refl
-result_given (Some t) true f = refl
-result_given (Some t) false f = let e = f t refl in absurd (cc e)
 
 -- in no loop each variable may be assigned
 mutual

@@ -1,18 +1,17 @@
 -- Numbers below a count, and the numbers of a range's positions.
-use Rattle.std.proofs.Common.{◌≡◌, ℕ, ◌<◌, ℤ, pos, negsuc, ◌-ℤ◌, ◌+ℤ◌, Bool, true, false, refl, arith}
-use Rattle.std.specs.Prelude.{nat_eq, int_le, int_lt}
+use Rattle.std.proofs.Common.{◌≡◌, ℕ, ◌<◌, ℤ, pos, negsuc, ◌-ℤ◌, ◌+ℤ◌, Bool, true, false, refl, arith, rules}
+use Rattle.std.specs.Prelude.{nat_eq, nat_lt, int_le, int_lt}
 use Rattle.std.proofs.lemmas.Int.{ints}
 use Rattle.pv_picks.specs.Formulas.Values.{within, width, or_zero}
 use Rattle.pv_picks.proofs.Sames.{naturals_same}
 use Rattle.account_formulas.proofs.Basics.{both, not_false}
 
--- what is below a number is another one
-pub other_number : (j n : ℕ) → j < n → nat_eq j n ≡ false
-other_number j n l = go (nat_eq j n) refl
-  where
-    go : (b : Bool) → nat_eq j n ≡ b → b ≡ false
-    go false e = refl
-    go true e = let same = naturals_same j n e in absurd (omega (arith, same, l))
+-- what the test says
+pub is_below : (m n : ℕ) → m < n → nat_lt m n ≡ true
+is_below m n h = search (rules)
+
+pub below_of : (m n : ℕ) → nat_lt m n ≡ true → m < n
+below_of m n h = search (rules)
 
 -- each number of a range's width is one of its positions
 pub number_within : (low high : ℤ) (n : ℕ) → n < width low high → within low high (low +ℤ pos n) ≡ true

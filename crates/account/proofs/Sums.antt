@@ -5,6 +5,7 @@ use Rattle.std.proofs.lemmas.Option.{none-some, same_Some}
 use Rattle.pv_base.specs.declared.Name.{Name}
 use Rattle.pv_base.specs.Names.{same_name}
 use Rattle.pv_ast.specs.declared.Token.TheVariants as token
+use Rattle.machine_laws.proofs.Members.{below_other}
 use Rattle.pv_picks.specs.Formulas.Heaps.{Heap, at_number}
 use Rattle.pv_picks.specs.Judge.States.{Resource, OfToken}
 use Rattle.pv_picks.specs.Machine.Worlds.{ThreadState}
@@ -13,15 +14,6 @@ use Rattle.account_formulas.specs.Owning.{Amounts, IsPlaced}
 use Rattle.account_formulas.proofs.Basics.{nat_self}
 use Rattle.account.specs.Frames.{Run, all_of}
 use Rattle.account.specs.Owners.{Mail, Owners, letter, sum_below, carried_by, at_thread, at_object, total, with_runs, with_left, with_mail, with_promise, with_guard, SumsFit}
-
-pub below_other : (i n : ℕ) → nat_eq i n ≡ false → i < suc n → i < n
-below_other i n e l = by different
-  where
-    different : i ≡ n → ⊥
-    different k = let self = nat_self n in let same = subst (λ x. nat_eq x n ≡ true) (sym k) self in absurd (cc (e, same))
-
-    by : (i ≡ n → ⊥) → i < n
-    by apart = omega (arith, l, apart)
 
 pub sum_less : (f g : ℕ → ℕ) (n : ℕ) → ((i : ℕ) → f i ≤ g i) → sum_below f n ≤ sum_below g n
 sum_less f g zero h = omega arith

@@ -44,9 +44,9 @@ use Rattle.account.proofs.Typing.{arguments_typed, object_typed}
 use Rattle.account.proofs.Working.{NeverOn, TurnsAround}
 use Rattle.account.proofs.LocalWork.{named_so}
 use Rattle.account_accesses.specs.Statements.{FoldKeeps}
-use Rattle.account.proofs.Stepping.{own_most}
+use Rattle.account.proofs.Stepping.{is_not_null, own_most}
 use Rattle.account_accesses.proofs.Acting.{acts, steps_here}
-use Rattle.account_accesses.proofs.Reading.{tested, fails, not_null_of}
+use Rattle.account_accesses.proofs.Reading.{tested, fails}
 use Rattle.account_accesses.proofs.Speaking.{left_goes}
 
 -- what stands of a fold: the predicate, its object and arguments, and the types behind it
@@ -175,7 +175,7 @@ fold_keeps class predicate count span p w support a i f below rest at mode =
             (λ q. let one = gave.sum q in let two = most q in omega (arith, one, two)) in
             subst (λ b. Kept p (needs b check.Null span
             (act_fold p w i f below (predicate_named p class predicate) (object_under count f.values) count span rest)))
-            (sym (not_null_of (object_under count f.values) full))
+            (sym (is_not_null (object_under count f.values) full))
             (subst (λ o. Kept p (act_fold p w i f below o (object_under count f.values) count span rest)) (sym s.named)
             (subst (λ b. Kept p (needs b check.Fold span
             (Result.Went (with_frames w i (settled (pops (suc count) f rest) ∷ below)))))

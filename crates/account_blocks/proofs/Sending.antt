@@ -40,7 +40,7 @@ use Rattle.account_blocks.proofs.Messages.{is_some_distance, Sent, sends, sends_
 use Rattle.account_blocks.proofs.Members.{member, Opener, opener, Stood, stood, here, scenes_agree, part_of_all}
 use Rattle.account.proofs.Locks.{locks_less, goes_on_locked}
 use Rattle.account_blocks.proofs.Recorded.{recorded}
-use Rattle.account_blocks.proofs.Onward.{gives_to, still_receives, step_known, done, went}
+use Rattle.account_blocks.proofs.Onward.{gives_to, still_receives, step_known, done, went, went_alone}
 
 -- a number of a position below the end of a range is one of its numbers
 in_block : (low high : ℤ) (n : ℕ) → int_lt (low +ℤ pos n) high ≡ true → n < width low high
@@ -284,28 +284,9 @@ module _ (p : Program) (w : World) (a : Account p w) (sound : HeapFits p w.heap)
     no_more : (q : Resource) → amounts_of (record k.run { inner = false }) q ≤ whole
     no_more q = let n = part_of_all p w a i inside f stack b spot role q in omega (arith, n)
 
-    abbrev after : Goes p w.committed w.heap behind (record k.run { inner = false })
-    after = done p w a sound framed i inside f stack b spot role k.run k.has_runs (AtSend m span) rest is (λ c e. cc e)
-        (record k.run { inner = false }) alone says refl no_more
-
     nobody : Account p (with_frames w i (behind ∷ []))
-    nobody = moved p w a i (behind ∷ []) (after.run ∷ []) a.owners.left a.owners.mail inside
-        (went p w a sound framed i inside f stack b spot role k.run k.has_runs (AtSend m span) rest is (λ c e. cc e)
-        (record k.run { inner = false }) alone says refl no_more a.owners.left a.owners.mail
-        (λ q. sum_less _ _ w.count (λ j. less_at j q (nat_eq j i) refl)) (λ class x. omega arith) a.locks.threads
-        (λ j e. refl) (λ j l c position is' label some was. a.mail.there j l c position is' label
-        (still_receives p w a sound framed i inside f stack b spot role k.run k.has_runs (AtSend m span) rest is
-        (λ c e. cc e) (record k.run { inner = false }) alone says refl no_more j label some) was))
-      where
-        less_at : (j : ℕ) (q : Resource) (x : Bool) → nat_eq j i ≡ x
-            → all_of (if x then after.run ∷ [] else a.owners.runs j) q
-            + (a.owners.left j q + carried_by (a.owners.mail j) q)
-            ≤ all_of (a.owners.runs j) q + (a.owners.left j q + carried_by (a.owners.mail j) q)
-        less_at j q false e = omega arith
-        less_at j q true e =
-            let runs = ap (λ z. all_of (a.owners.runs z) q) (naturals_same j i e) in
-            let mine = ap (λ z. all_of z q) k.has_runs in
-            let d = after.less q in omega (arith, runs, mine, d)
+    nobody = went_alone p w a sound framed i inside f stack b spot role k.run k.has_runs (AtSend m span) rest is (λ c e. cc e)
+        (record k.run { inner = false }) alone says refl no_more (λ q. omega arith)
 
   pub send_keeps : (mode : Mode) → Kept p (act p w mode i)
   send_keeps mode = by_run p w a i inside f [] stack mode (λ r rs e fits.

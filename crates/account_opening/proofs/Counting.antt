@@ -6,16 +6,11 @@ use Rattle.pv_picks.specs.Formulas.Meeting.{sum_of_each}
 use Rattle.pv_picks.proofs.Sames.{front, back}
 use Rattle.account_formulas.proofs.Basics.{at_most, is_at_most, both}
 use Rattle.account.specs.Owners.{sum_below}
+use Rattle.account.proofs.Numbers.{is_below, below_of}
 
 -- whether a number is one of so many behind a count
 abbrev pub is_behind : ℕ → ℕ → ℕ → Bool
 is_behind count n j = nat_le count j && nat_lt j (count + n)
-
-is_below : (m n : ℕ) → m < n → nat_lt m n ≡ true
-is_below m n h = search (rules)
-
-below_of : (m n : ℕ) → nat_lt m n ≡ true → m < n
-below_of m n h = search (rules)
 
 pub is_number : (count n k : ℕ) → k < n → is_behind count n (count + k) ≡ true
 is_number count n k l = both (nat_le count (count + k)) (nat_lt (count + k) (count + n))

@@ -31,7 +31,8 @@ use Rattle.account.proofs.Sums.{sums_less, sum_changed, sum_same, at_same, at_ot
 use Rattle.account.proofs.Bottom.{bottom_exchanges, role_moves, member_moves}
 use Rattle.account.proofs.Moving.{first_same}
 use Rattle.account_opening.proofs.Counting.{is_behind, is_number, has_number, is_before, comes_before, difference, sum_with_more}
-use Rattle.account.proofs.Numbers.{other_number, number_within}
+use Rattle.machine_laws.proofs.Growth.{above}
+use Rattle.account.proofs.Numbers.{number_within}
 
 module _ (p : Program) (w : World) (a : Account p w) (i : ℕ) (inside : i < w.count) (f : Frame) (below : List Frame)
     (stack : (w.threads i).frames ≡ f ∷ below) (r : Run) (rs : List Run) (has_runs : a.owners.runs i ≡ r ∷ rs) (team : Team)
@@ -176,13 +177,13 @@ module _ (p : Program) (w : World) (a : Account p w) (i : ℕ) (inside : i < w.c
     -- Blocks
 
     block_as : (c : ℕ) → c < w.block_count → blocks c ≡ w.blocks c
-    block_as c l = at_other w.block_count c block w.blocks (other_number c w.block_count l)
+    block_as c l = at_other w.block_count c block w.blocks (above c w.block_count l)
 
     opening_as : (c : ℕ) → c < w.block_count → after.openings c ≡ a.owners.openings c
-    opening_as c l = at_other w.block_count c opening a.owners.openings (other_number c w.block_count l)
+    opening_as c l = at_other w.block_count c opening a.owners.openings (above c w.block_count l)
 
     messages_as : (c : ℕ) → c < w.block_count → after.messages c ≡ a.owners.messages c
-    messages_as c l = at_other w.block_count c messages a.owners.messages (other_number c w.block_count l)
+    messages_as c l = at_other w.block_count c messages a.owners.messages (above c w.block_count l)
 
     -- who waits for an old block goes on to wait
     waits_on : (o c : ℕ) (h : Frame) (q : Run) (more : List Task)

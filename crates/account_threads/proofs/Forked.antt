@@ -46,7 +46,8 @@ use Rattle.account_formulas.specs.Sights.{SceneFits}
 use Rattle.account.specs.Accounts.{Account, Kept}
 use Rattle.account.specs.Going.{Goes}
 use Rattle.account.proofs.LocalWork.{settled_goes}
-use Rattle.account.proofs.Sums.{below_other, at_same, runs_in_total, total_with_runs}
+use Rattle.account.proofs.Sums.{at_same, runs_in_total, total_with_runs}
+use Rattle.machine_laws.proofs.Members.{below_other}
 use Rattle.account.proofs.Stepping.{own_most, by_run, is_not_null}
 use Rattle.account_threads.specs.Parts.{RunsFit}
 use Rattle.account.proofs.Locks.{locks_less, owns_locked}

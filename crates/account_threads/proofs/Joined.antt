@@ -40,7 +40,8 @@ use Rattle.account.proofs.Sums.{part_of, runs_in_total, total_with_runs, total_w
 use Rattle.account.proofs.Stepping.{by_run, is_not_null}
 use Rattle.account_threads.specs.Parts.{RunsFit}
 use Rattle.account.proofs.Locks.{locks_less, owns_locked}
-use Rattle.account_threads.proofs.OfObject.{by_test, keeps_itself}
+use Rattle.account.proofs.Later.{keeps_same}
+use Rattle.account_threads.proofs.OfObject.{by_test}
 use Rattle.account_threads.proofs.Acting.{object_on, allowed, acts_on_class}
 use Rattle.account_threads.proofs.Joining.{JoinGoes, without_token, joins_go}
 use Rattle.account_threads.proofs.Going.{families_go}
@@ -308,7 +309,7 @@ join_keeps p w a sound framed parts i f below class span rest stack is mode =
             owns : Owns p w.committed (only_now w.heap) (outer_scene (object_on f) [] []) named.0.contract.after
                 (a.owners.promise (object_on f))
             owns = a.objects.promises (object_on f) class named.0 there class_is named.1 at w.heap
-                (keeps_itself (a.owners.promise (object_on f)) w.heap)
+                (keeps_same (a.owners.promise (object_on f)) w.heap)
 
             both : (q : Resource) → all_of (r ∷ rs) q + a.owners.promise (object_on f) q
                 ≤ total a.owners w.count (suc w.heap.count) q

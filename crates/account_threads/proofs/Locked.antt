@@ -40,7 +40,8 @@ use Rattle.account.proofs.Sums.{part_of, total_with_runs, total_with_guard}
 use Rattle.account.proofs.Stepping.{by_run, is_not_null}
 use Rattle.account_threads.specs.Parts.{InvariantsFit}
 use Rattle.account.proofs.Locks.{locks_less, owns_locked}
-use Rattle.account_threads.proofs.OfObject.{by_test, keeps_itself, object_met}
+use Rattle.account.proofs.Later.{keeps_same}
+use Rattle.account_threads.proofs.OfObject.{by_test, object_met}
 use Rattle.account_threads.proofs.Acting.{object_on, allowed, acts_on_class}
 use Rattle.account_threads.proofs.Locking.{LockGoes, locks_go}
 use Rattle.account_threads.proofs.Going.{families_go}
@@ -277,7 +278,7 @@ lock_keeps p w a sound framed parts i f below class span rest stack is mode =
             owns : Owns p w.committed (only_now w.heap) (outer_scene (object_on f) [] []) named.0
                 (a.owners.guard (object_on f))
             owns = a.objects.guards (object_on f) class named.0 there class_is named.1 flag held w.heap
-                (keeps_itself (a.owners.guard (object_on f)) w.heap)
+                (keeps_same (a.owners.guard (object_on f)) w.heap)
 
             met : IsMet (only_now w.heap) (outer_scene (object_on f) [] []) named.0
             met = object_met p w.committed w.heap sound class (object_on f) named.0 (parts.good class named.0 named.1)
