@@ -1,38 +1,32 @@
 -- The body of a method on whose unit the judge never fails begins: its precondition is owned, and its frame has a run.
-use Rattle.std.proofs.Common.{◌≡◌, ◌⊎◌, inl, inr, ◌≤◌, ◌<◌, ℕ, zero, suc, Bool, true, false, if◌then◌else◌, ◌||◌, ◌&&◌, Option, Some, None, List, [], ◌∷◌, refl, ap, sym, subst, ◌∙◌, arith}
+use Rattle.std.proofs.Common.{◌≡◌, ◌⊎◌, inl, inr, ◌≤◌, ℕ, Bool, true, false, if◌then◌else◌, ◌||◌, ◌&&◌, Option, Some, None, List, [], ◌∷◌, refl, ap, sym, subst, ◌∙◌, arith}
 use Rattle.std.specs.Prelude.{nat_eq, is_none, is_some, unwrap_or, IsTrue}
 use Rattle.std.proofs.lemmas.Option.{same_Some, none-some}
 use Rattle.pv_base.specs.declared.Name.{Name}
 use Rattle.pv_ast.specs.declared.PvType.{PvType}
-use Rattle.pv_ast.specs.declared.PvType.TheVariants.{Int, Truth, Object, IntArray, TruthArray, Null}
+use Rattle.pv_ast.specs.declared.PvType.TheVariants.{Object, Null}
 use Rattle.pv_values.specs.declared.value.Value.{Value}
 use Rattle.pv_values.specs.declared.value.Value.TheVariants as value
 use Rattle.pv_fraction.specs.Amounts.{whole}
-use Rattle.pv_picks.specs.Plain.Core.{Nowhere, ToVariable, ToField, ToElement, Statement, Assign, If, While, Members, Meet, Act, Fold, Unfold, Assert, Send, Receive, Return, Block, Stop, Then, Parameter, Predicate, Method, Program}
-use Rattle.pv_picks.specs.Formulas.Values.{Variables, no_variables, with_arguments, with_variable}
-use Rattle.pv_picks.specs.Plain.Members.{predicate_named}
+use Rattle.pv_picks.specs.Plain.Core.{Nowhere, ToVariable, ToField, ToElement, Statement, Assign, If, While, Members, Meet, Act, Fold, Unfold, Assert, Send, Receive, Return, Block, Stop, Then, Method, Program}
+use Rattle.pv_picks.specs.Formulas.Values.{no_variables, with_arguments}
 use Rattle.pv_picks.specs.Formulas.Heaps.{Heap}
-use Rattle.pv_picks.specs.Judge.States.{nothing_held, Resource, State, cells_of, empty_state, no_cells}
-use Rattle.pv_picks.specs.Judge.Settings.{Next}
+use Rattle.pv_picks.specs.Judge.States.{Resource, cells_of, empty_state, no_cells}
 use Rattle.pv_picks.specs.Machine.Tasks.{Run}
 use Rattle.pv_picks.specs.Machine.Frames.{no_value, only_now, outer_scene}
-use Rattle.pv_picks.specs.Judge.Judging.{finish, inhale_own, pick_variables}
-use Rattle.pv_picks.specs.Judge.UnitRuns.{OfMethod, OfFormula, go_on, judge_task}
-use Rattle.pv_picks.specs.declared.evidence.Pick.{Pick}
-use Rattle.pv_picks.specs.declared.evidence.Pick.TheVariants.{Turn}
-use Rattle.pv_picks.specs.Judge.Runs.{Judged, Maps, maps_from, before_others, pick_turn, Failed}
-use Rattle.pv_picks.specs.Typing.Heaps.{IsUnused}
-use Rattle.pv_picks.specs.Typing.Expressions.{silent, IsDeclared}
+use Rattle.pv_picks.specs.Judge.Judging.{inhale_own, pick_variables}
+use Rattle.pv_picks.specs.Judge.UnitRuns.{OfMethod, go_on, judge_task}
+use Rattle.pv_picks.specs.Typing.Expressions.{silent}
 use Rattle.pv_picks.specs.Typing.Blocks.{types_of, over, gives, MethodFits}
 use Rattle.pv_picks.specs.Typing.Frames.{HasType, VariablesFit, ResultFits}
-use Rattle.machine_laws.proofs.Local.{new-fits}
+use Rattle.machine_laws.proofs.Kept.{first_result, result_given}
 use Rattle.core_trees.specs.Assigned.{AssignsOnly, BlockAssigns}
-use Rattle.core_trees.specs.Formulas.{AreDeclared, in_class, MethodSays}
+use Rattle.core_trees.specs.Formulas.{in_class, MethodSays}
 use Rattle.account_formulas.specs.Sights.{SceneFits}
-use Rattle.account_formulas.specs.Runs.{Taken, truly, RestNeverFails, contents_of}
+use Rattle.account_formulas.specs.Runs.{truly, RestNeverFails, contents_of}
 use Rattle.account_formulas.specs.Good.{IsGood}
 use Rattle.account_formulas.specs.Owning.{Amounts, Owns}
-use Rattle.account_formulas.specs.Growing.{AllBelow, Place, HeapFits, IsPicked}
+use Rattle.account_formulas.specs.Growing.{Place, HeapFits}
 use Rattle.account_formulas.specs.Gaining.{Gained, AreTyped, nothing_taken, PredicatesFit}
 use Rattle.account_formulas.proofs.Picking.{picking}
 use Rattle.account_formulas.proofs.Raising.{settled_of, contents_fine}
@@ -41,69 +35,9 @@ use Rattle.account.specs.Scoped.{MayAssign, TasksSay, done, runs}
 use Rattle.account.specs.Frames as account
 use Rattle.account.specs.Frames.{amounts_of, standing_in, called_of, IsBodyOf, IsRunOf}
 use Rattle.account.specs.Going.{body_of, first_frame, Begins}
+use Rattle.account.proofs.Choosing.{never_turn}
+use Rattle.account.proofs.Framing.{begun_with, picking_all, variables_fit, outer_fits}
 use Rattle.account.proofs.LocalWork.{settled_goes, called_settled}
-
--- A turn that is picked leaves the maps as they are.
-
-turn_passed : (n : ℕ) (maps : Maps) (k : ℕ) (picks : List Pick) → maps_from n maps (Turn k ∷ picks) ≡ maps_from n maps picks
-turn_passed zero maps k picks = refl
-turn_passed (suc n) maps k picks = ap (before_others (maps zero)) (turn_passed n (λ j. maps (suc j)) k picks)
-
--- the first turn is taken
-pub never_inner : (taken : Taken) (rest : Maps → ℕ → Judged) → RestNeverFails taken (λ maps. pick_turn (rest maps))
-    → RestNeverFails taken (λ maps. rest maps 0)
-never_inner taken rest n = record {
-  never = λ picks check span bad. n.never (Turn 0 ∷ picks) check span
-      (subst (λ m. rest m 0 picks ≡ Failed check span) (sym (turn_passed taken.steps taken.maps 0 picks)) bad);
-}
-
--- Variables that are picked have their arguments.
-
-pub is_picked : (type : PvType) → IsDeclared type → IsPicked type
-is_picked Int is = tt
-is_picked Truth is = tt
-is_picked (Object class) is = tt
-is_picked IntArray is = tt
-is_picked TruthArray is = tt
-is_picked Null is = absurd is
-
--- a state before the first inhale: nothing but variables and references met
-abbrev pub begun_with : ℕ → Variables → List (PvType × ℕ) → State
-begun_with object variables met = record empty_state { this = object; variables = variables; met = met }
-
-pub picking_all : (heap : Heap) → ((n : ℕ) → heap.count < n → IsUnused heap n) → (object : ℕ) (ps : List Parameter)
-    (vs : List Value) → AreTyped heap (types_of ps) vs → AreDeclared ps → (variables : Variables) (met : List (PvType × ℕ))
-    → AllBelow heap.count met → (next : Maps → Next Judged) (G : Type 0)
-    → ((more : List (PvType × ℕ)) → AllBelow heap.count more
-    → RestNeverFails nothing_taken (λ maps. next maps (begun_with object (with_arguments variables ps vs) more)) → G)
-    → RestNeverFails nothing_taken (λ maps. pick_variables (truly maps) ps (next maps) (begun_with object variables met)) → G
-picking_all heap beyond object [] [] typed declared variables met low next G found never = found met low never
-picking_all heap beyond object [] (v ∷ vs) typed declared variables met low next G found never = absurd typed
-picking_all heap beyond object (x ∷ ps) [] typed declared variables met low next G found never = absurd typed
-picking_all heap beyond object (x ∷ ps) (v ∷ vs) typed declared variables met low next G found never =
-    picking nothing_taken heap beyond x.1 v typed.0 (is_picked x.1 declared.0) _ (begun_with object variables met) G
-    (λ more b n. picking_all heap beyond object ps vs typed.1 declared.1 _ more (b low) next G found n) never
-
--- arguments fit their parameters
-pub arguments_fit : (heap : Heap) (xs : List Parameter) (variables : Variables) (ps : List Parameter) (vs : List Value)
-    → VariablesFit heap xs variables → AreTyped heap (types_of ps) vs
-    → VariablesFit heap (over xs ps) (with_arguments variables ps vs)
-arguments_fit heap xs variables [] [] fits typed = fits
-arguments_fit heap xs variables [] (v ∷ vs) fits typed = absurd typed
-arguments_fit heap xs variables (x ∷ ps) [] fits typed = absurd typed
-arguments_fit heap xs variables (x ∷ ps) (v ∷ vs) fits typed =
-    arguments_fit heap (x ∷ xs) (with_variable variables x.0 v) ps vs
-    (new-fits heap xs variables x.0 x.1 v typed.0 fits) typed.1
-
-first_result : (heap : Heap) (r : Option PvType) → ResultFits heap (Some (unwrap_or r Null)) (is_none r) no_value
-first_result heap None g type e = subst (λ t. HasType heap t no_value) (same_Some Null type e) tt
-first_result heap (Some t) g type e = absurd (cc g)
-
-result_given : (r : Option PvType) (b : Bool) → ((type : PvType) → r ≡ Some type → b ≡ true) → (b || is_none r) ≡ true
-result_given None true f = refl
-result_given None false f = refl
-result_given (Some t) true f = refl
-result_given (Some t) false f = let e = f t refl in absurd (cc e)
 
 -- in no loop each variable may be assigned
 mutual
@@ -155,7 +89,7 @@ module _ (p : Program) (flags : ℕ → Bool) (heap : Heap) (sound : HeapFits p 
   begins class m says fits good never object values full typed all R most owns =
       picking nothing_taken heap sound.beyond (Object class) (value.Reference object) typed tt _ empty_state
       (Begins p flags heap class m object values R)
-      (λ met b n. picking_all heap sound.beyond object m.parameters values all says.0 no_variables met (b tt)
+      (λ met b n. picking_all heap sound.beyond nothing_taken object m.parameters values all says.0 no_variables met (b tt)
       (λ maps. inhale_own (truly maps) m.contract.before (go_on (truly maps) p (OfMethod class m)))
       (Begins p flags heap class m object values R)
       (λ more low n. made more (formula_gains p flags heap sound framed (before_place class m)
@@ -177,10 +111,10 @@ module _ (p : Program) (flags : ℕ → Bool) (heap : Heap) (sound : HeapFits p 
       never
     where
       variables : VariablesFit heap (over [] m.parameters) (with_arguments no_variables m.parameters values)
-      variables = arguments_fit heap [] no_variables m.parameters values (λ n t is. absurd (none-some t is)) all
+      variables = variables_fit heap m.parameters values all
 
       scene : SceneFits (in_class p class) silent (over [] m.parameters) heap (outer_scene object m.parameters values)
-      scene = record { this = typed; variables = variables; result = λ t is. absurd (none-some t is) }
+      scene = outer_fits (in_class p class) heap m.parameters object values typed all
 
       kept_or : (b : Bool) → ((if b then Some heap else None) ≡ Some heap) ⊎ ((if b then Some heap else None) ≡ None)
       kept_or true = inl refl
@@ -246,7 +180,7 @@ module _ (p : Program) (flags : ℕ → Bool) (heap : Heap) (sound : HeapFits p 
             typed = record { this = typed; variables = variables; result = first_result heap m.result; values = tt };
             tasks = tasks;
             outer = tt;
-            never = never_inner g.then_taken _ g.never;
+            never = never_turn g.then_taken _ 0 refl g.never;
           }) tasks (λ q. let s = g.sum q in let k = most q in omega (arith, s, k)) in
           record {
             run = go.run;
@@ -274,24 +208,3 @@ module _ (p : Program) (flags : ℕ → Bool) (heap : Heap) (sound : HeapFits p 
                   body = z;
                 }) go.body);
           }
-
--- where the judge never fails on the predicates of a program, each body can be taken in where nothing is held
-pub predicates_fit : (p : Program) (heap : Heap) → ((n : ℕ) → heap.count < n → IsUnused heap n)
-    → ((class name : Name) (d : Predicate) → predicate_named p class name ≡ Some d
-    → AreDeclared d.parameters × IsGood (in_class p class) silent (over [] d.parameters) d.body)
-    → ((class name : Name) (d : Predicate) → predicate_named p class name ≡ Some d
-    → RestNeverFails nothing_taken (λ maps. judge_task (truly maps) p (OfFormula class d.parameters d.body)))
-    → PredicatesFit p heap
-predicates_fit p heap beyond good never = record {
-  good = λ class name d is. (good class name d is).1;
-  fits = λ class name d is object vs this typed. record {
-    this = this;
-    variables = arguments_fit heap [] no_variables d.parameters vs (λ n t k. absurd (none-some t k)) typed;
-    result = λ t k. absurd (none-some t k);
-  };
-  never = λ class name d is object vs this typed.
-      picking nothing_taken heap beyond (Object class) (value.Reference object) this tt _ empty_state _
-      (λ met b n. picking_all heap beyond object d.parameters vs typed (good class name d is).0 no_variables met (b tt)
-      (λ maps state. inhale_own (truly maps) d.body (finish (truly maps)) (nothing_held state)) _
-      (λ more low n. (more, low, n)) n) (never class name d is);
-}

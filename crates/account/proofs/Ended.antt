@@ -2,6 +2,8 @@
 use Rattle.std.proofs.Common.{◌≡◌, ◌⊎◌, inl, inr, ℕ, Bool, true, IsTrue, Option, Some, None, List, [], refl, ap, sym, subst}
 use Rattle.std.specs.Prelude.{unwrap_or}
 use Rattle.std.proofs.lemmas.Option.{none-some}
+use Rattle.pv_base.specs.declared.Name.{Name}
+use Rattle.pv_values.specs.Typing.{Kind}
 use Rattle.pv_ast.specs.declared.PvType.{PvType}
 use Rattle.pv_ast.specs.declared.PvType.TheVariants.{Object}
 use Rattle.pv_values.specs.declared.value.Value.TheVariants as value
@@ -32,9 +34,9 @@ use Rattle.account.specs.Frames as account
 use Rattle.account.specs.Frames.{sight_in, speech_at_end, standing_in, OldIs, IsBodyOf, IsRunOf, WaitsFor, Called, called_of, amounts_of}
 
 -- the values of an earlier heap fit also with the present lengths
-pub past_fits : (p : Program) (present past : Heap) → ValuesFit (field_kind p) present past
-    → ValuesFit (field_kind p) present (at_lengths_of present past)
-past_fits p present past fits = record {
+pub past_fits : (kinds : Name → Name → Option Kind) (present past : Heap) → ValuesFit kinds present past
+    → ValuesFit kinds present (at_lengths_of present past)
+past_fits kinds present past fits = record {
   fields = fits.fields;
   numbers = fits.numbers;
   truths = fits.truths;
@@ -64,7 +66,7 @@ module _ (p : Program) (flags : ℕ → Bool) (heap : Heap) (f : Frame) (r : acc
     past = at_lengths_of heap r.past;
     old = r.state.old;
     known = fits.old.known;
-    before = past_fits p heap r.past fits.old.fits;
+    before = past_fits (field_kind p) heap r.past fits.old.fits;
     agrees = fits.old.agrees;
     lengths = λ array n is. is;
   }

@@ -1,16 +1,20 @@
 -- Runs, what waits around loops, blocks and mail over a change of the heap that keeps what they have.
-use Rattle.std.proofs.Common.{◌≡◌, ℕ, suc, ◌≤◌, ℤ, Bool, false, Option, Some, None, List, [], ◌∷◌, ap, sym, ◌∙◌, arith}
+use Rattle.std.proofs.Common.{◌≡◌, ℕ, suc, ◌≤◌, ℤ, Bool, false, Option, Some, None, List, [], ◌∷◌, refl, ap, sym, subst, ◌∙◌, arith}
+use Rattle.std.specs.Prelude.{IsSome}
 use Rattle.std.proofs.lemmas.Option.{none-some}
 use Rattle.pv_base.specs.declared.Name.{Name}
 use Rattle.pv_ast.specs.declared.PvType.{PvType}
 use Rattle.pv_ast.specs.declared.PvType.TheVariants.{Object}
 use Rattle.pv_values.specs.declared.value.Value.{Value}
 use Rattle.pv_values.specs.declared.value.Value.TheVariants as value
+use Rattle.pv_values.specs.declared.value.Location.{Location}
+use Rattle.pv_values.specs.declared.value.Location.TheVariants as location
 use Rattle.pv_values.specs.Typing.{Kind, is_number, is_truth}
 use Rattle.pv_picks.specs.Plain.Core.{Formula, Parameter, Barrier, Program}
 use Rattle.pv_picks.specs.Formulas.Evaluation.{Scene}
+use Rattle.pv_picks.specs.Formulas.Values.{array_of}
 use Rattle.pv_picks.specs.Formulas.Heaps.{Heap}
-use Rattle.pv_picks.specs.Judge.States.{Resource, Cells, Folded, Holding, State, amount_held, amount_of}
+use Rattle.pv_picks.specs.Judge.States.{Resource, InField, InElement, OfToken, OfLock, Cells, Folded, Holding, State, amount_held, amount_of}
 use Rattle.pv_picks.specs.Machine.Starts.{field_kind, kind_of}
 use Rattle.pv_picks.specs.Machine.Tasks.{Loop, Task}
 use Rattle.pv_picks.specs.Machine.Frames.{Frame, body_scene, outer_scene}
@@ -19,9 +23,9 @@ use Rattle.pv_picks.specs.Typing.Heaps.{HasKindOf, HoldsOnly}
 use Rattle.pv_picks.specs.Typing.Expressions.{Home, Speech}
 use Rattle.pv_picks.specs.Typing.Frames as typed
 use Rattle.pv_picks.specs.Typing.Frames.{HasType, VariablesFit}
-use Rattle.account_formulas.specs.Sights.{ValuesFit, SceneFits}
+use Rattle.account_formulas.specs.Sights.{Stands, ValuesFit, SceneFits}
 use Rattle.account_formulas.specs.Runs.{Taken}
-use Rattle.account_formulas.specs.Owning.{Amounts, KeepsHeld, KeepsOwning, HasTrees}
+use Rattle.account_formulas.specs.Owning.{Amounts, IsPlaced, KeepsHeld, KeepsOwning, HasTrees}
 use Rattle.account_formulas.specs.Growing.{AllBelow, IsHeld, StateFits}
 use Rattle.account_formulas.proofs.Picking.{not_beyond}
 use Rattle.account.specs.Running.{Body}
@@ -68,7 +72,54 @@ keeps_then A a b c l m = record {
   lengths = λ x n h. m.lengths x n (l.lengths x n h);
 }
 
-below_more : (a b : ℕ) → a ≤ b → (xs : List (PvType × ℕ)) → AllBelow a xs → AllBelow b xs
+-- a heap with more in it: what stood in the one before, of the same classes, lengths and kinds, stands there
+pub record Extends (heap later : Heap) : Type 0 where
+  pub values : (l : Location) (v : Value) → heap.value l ≡ Some v → later.value l ≡ Some v
+  pub lengths : (a : ℕ) (n : ℤ) → heap.length a ≡ Some n → later.length a ≡ Some n
+  pub classes : (x : ℕ) (class : Name) → heap.class x ≡ Some class → later.class x ≡ Some class
+  pub class : (x : ℕ) (class : Name) → later.class (suc x) ≡ Some class → suc x ≤ heap.count → heap.class (suc x) ≡ Some class
+  pub kinds : (kind : Option Kind) (v : Value) → HasKindOf heap kind v → HasKindOf later kind v
+  pub count : heap.count ≤ later.count
+
+module _ (heap later : Heap) (e : Extends heap later) where
+  pub grown_extended : Grown heap later
+  grown_extended = record {
+    keeps = e.kinds;
+    numbers = λ a h i v is. h i v (e.values (location.Cell a i) v is);
+    truths = λ a h i v is. h i v (e.values (location.Cell a i) v is);
+    count = e.count;
+    class = e.class;
+    classes = e.classes;
+  }
+
+  some_extended : (l : Location) → IsSome (heap.value l) → IsSome (later.value l)
+  some_extended l is = go (heap.value l) refl is
+    where
+      go : (o : Option Value) → heap.value l ≡ o → IsSome o → IsSome (later.value l)
+      go None at k = absurd (cc k)
+      go (Some v) at k = subst IsSome (sym (e.values l v at)) refl
+
+  pub keeps_extended : (A : Amounts) → KeepsHeld A heap later
+  keeps_extended A = record { placed = placed; kept = kept; lengths = e.lengths }
+    where
+      placed : (r : Resource) → IsPlaced heap r → IsPlaced later r
+      placed (InField c o n) h = (e.classes o c h.0, some_extended (location.Field o n) h.1)
+      placed (InElement t a i) h = (
+        (h.0.0, e.lengths a h.0.0 h.0.1, h.0.2),
+        some_extended (location.Cell a i) h.1,
+        h.2,
+        e.kinds (Some (kind_of (array_of t))) (value.Reference a) h.3,
+      )
+      placed (OfToken t c o) h = e.classes o c h
+      placed (OfLock c o) h = e.classes o c h
+
+      kept : (r : Resource) (v : Value) → 1 ≤ A r → Stands heap r v → Stands later r v
+      kept (InField c o n) v m is = e.values (location.Field o n) v is
+      kept (InElement t a i) v m is = e.values (location.Cell a i) v is
+      kept (OfToken t c o) v m is = tt
+      kept (OfLock c o) v m is = tt
+
+pub below_more : (a b : ℕ) → a ≤ b → (xs : List (PvType × ℕ)) → AllBelow a xs → AllBelow b xs
 below_more a b l [] h = tt
 below_more a b l (x ∷ xs) h = (let k = h.0 in omega (arith, l, k), below_more a b l xs h.1)
 

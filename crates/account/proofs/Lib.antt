@@ -18,6 +18,7 @@ pub mod Homes
 mod Laws
 pub mod Locks
 pub mod Bottom
+pub mod Numbers
 pub mod Moving
 pub mod Onward
 pub mod Together

@@ -31,7 +31,7 @@ use Rattle.pv_picks.specs.Typing.Blocks.{types_of, gives_statement, gives}
 use Rattle.pv_picks.specs.Typing.Tasks.{IsWithin}
 use Rattle.pv_picks.specs.Typing.Frames as typed
 use Rattle.pv_picks.specs.Typing.Frames.{HasType}
-use Rattle.machine_laws.proofs.Local.{rest-fits, two-fit, past-fits}
+use Rattle.machine_laws.proofs.Local.{moved_over, one_of_both, more_within, rest-fits, two-fit, past-fits}
 use Rattle.core_trees.specs.Assigned.{AssignsOnly}
 use Rattle.core_trees.specs.Formulas.{DeclaredBy}
 use Rattle.account_formulas.specs.Sights.{Contents}
@@ -121,36 +121,6 @@ first_passes test (x ∷ xs) d is = go (λ e. first_passes test xs d e) (test x)
 -- a predicate has the name that it was found by
 pub named_so : (p : Program) (class name : Name) (d : Predicate) → predicate_named p class name ≡ Some d → d.name ≡ name
 named_so p class name d is = names_same d.name name (first_passes (λ x. same_name x.name name) _ d is)
-
-moved_over : (s b given : Bool) → ((s || b) || given) ≡ true → (b || (s || given)) ≡ true
-moved_over true true given h = refl
-moved_over true false given h = refl
-moved_over false true given h = refl
-moved_over false false given h = h
-
-one_of_both : (t : Bool) (a b : Block) (given : Bool) → ((gives a && gives b) || given) ≡ true
-    → (gives (if t then a else b) || given) ≡ true
-one_of_both true a b given h = left (gives a) (gives b) given h
-  where
-    left : (x y g : Bool) → ((x && y) || g) ≡ true → (x || g) ≡ true
-    left true y g h = refl
-    left false y g h = h
-one_of_both false a b given h = right (gives a) (gives b) given h
-  where
-    right : (x y g : Bool) → ((x && y) || g) ≡ true → (y || g) ≡ true
-    right true true g h = refl
-    right true false g h = h
-    right false true g h = refl
-    right false false g h = h
-
-more_within : (outer xs : List Parameter) (name : Name) (type : PvType) → type_in xs name ≡ None → IsWithin outer xs
-    → IsWithin outer ((name, type) ∷ xs)
-more_within outer xs name type new within n t is = go (nat_eq n.0 name.0) refl
-  where
-    go : (e : Bool) → nat_eq n.0 name.0 ≡ e → (if e then Some type else type_in xs n) ≡ Some t
-    go true same =
-        absurd (none-some t (sym new ∙ subst (λ z. type_in xs z ≡ Some t) (names_same n name same) (within n t is)))
-    go false same = within n t is
 
 -- a block that begins with a declaration has its variable in scope
 block_declares : (c : Standing) (xs : List Parameter) (given inner : Bool) (s : Statement) (b : Block) (rest : List Task)

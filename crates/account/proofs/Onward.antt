@@ -14,6 +14,7 @@ use Rattle.pv_picks.specs.Machine.Worlds.{ThreadState, World, with_frames, with_
 use Rattle.pv_picks.proofs.Sames.{naturals_same}
 use Rattle.account_formulas.specs.Owning.{Amounts, IsPlaced, KeepsHeld, KeepsOwning}
 use Rattle.account_formulas.proofs.Basics.{nat_self, at_most, is_at_most}
+use Rattle.account_formulas.proofs.Picking.{beyond_it}
 use Rattle.account.specs.Frames.{Run, all_of, AreRunsOf}
 use Rattle.account.specs.Owners.{Owners, nothing, sum_below, lies_at, at_thread, at_object, total, SumsFit, LocksFit}
 use Rattle.account.specs.Objects.{ObjectsFit}
@@ -79,11 +80,6 @@ up_to_none count A x q above = go (nat_le x count) refl
 
 apart_as : (n m : ℕ) → nat_eq n m ≡ false → n ≡ m → ⊥
 apart_as n m e k = let self = nat_self m in let same = subst (λ z. nat_eq z m ≡ true) (sym k) self in absurd (cc (e, same))
-
-beyond_it : (a b : ℕ) → (a ≤ b → ⊥) → b < a
-beyond_it zero b f = absurd (f (omega arith))
-beyond_it (suc a) zero f = omega arith
-beyond_it (suc a) (suc b) f = let k = beyond_it a b (λ h. f (omega (arith, h))) in omega (arith, k)
 
 not_above : (a b : ℕ) → nat_le a b ≡ false → b < a
 not_above a b e = beyond_it a b (λ h. let k = is_at_most a b h in absurd (cc (e, k)))

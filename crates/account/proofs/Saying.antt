@@ -7,6 +7,7 @@ use Rattle.pv_ast.specs.declared.PvType.TheVariants.{Int, Truth, Object}
 use Rattle.pv_picks.specs.Plain.Core.{Expression, Target, Nowhere, ToVariable, ToField, ToElement, Right, Value', Call, NewObject, NewArray, Parameter, Method, Statement, Assign, If, While, Members, Meet, Act, Fold, Unfold, Assert, Send, Receive, Return, Block, Stop, Then}
 use Rattle.pv_picks.specs.Formulas.Values.{array_of}
 use Rattle.pv_picks.specs.Machine.Tasks.{Task, EvaluateAll, tasks_of_target, tasks_of_right, put_into, tasks_of_statement}
+use Rattle.machine_laws.proofs.Statements.{as_many}
 use Rattle.core_trees.specs.Returns.{Goes}
 use Rattle.pv_picks.specs.Typing.Expressions.{Home, answer_of, AreOf, onto}
 use Rattle.pv_picks.specs.Typing.Blocks as fits
@@ -20,13 +21,6 @@ use Rattle.account.specs.Scoped.{OpenLoop, Standing, MayAssign, StaysIn, TasksSa
 pub retyped : {c : Standing} {inner : Bool} {xs : List Parameter} {given : Bool} {stack : List PvType} {rest : List Task}
     (a b : PvType) → a ≡ b → TasksSay c inner xs given (a ∷ stack) rest → TasksSay c inner xs given (b ∷ stack) rest
 retyped {c} {inner} {xs} {given} {stack} {rest} a b e d = subst (λ t. TasksSay c inner xs given (t ∷ stack) rest) e d
-
-as_many : (h : Home) (xs : List Parameter) (es : List Expression) (types : List PvType) → AreOf h xs es types
-    → length types ≡ length es
-as_many h xs [] [] a = refl
-as_many h xs [] (type ∷ types) a = absurd a
-as_many h xs (e ∷ es) [] a = absurd a
-as_many h xs (e ∷ es) (type ∷ types) a = ap suc (as_many h xs es types a.1)
 
 -- what may be assigned by two rules
 mutual

@@ -1,5 +1,5 @@
 -- Evaluating keeps the scene of a run; values come on top one after the other.
-use Rattle.std.proofs.Common.{◌≡◌, ℕ, suc, ℤ, pos, Bool, true, false, if◌then◌else◌, Option, Some, None, List, [], ◌∷◌, refl, ap, sym, ◌∙◌, ◌+◌, arith}
+use Rattle.std.proofs.Common.{◌≡◌, ℕ, suc, ℤ, pos, Option, Some, None, List, [], ◌∷◌, refl, ap, sym, ◌∙◌, ◌+◌, arith}
 use Rattle.std.specs.Prelude.{nat_eq, int_le, drop, take, reverse, ◌++◌, length}
 use Rattle.std.proofs.lemmas.List.{append_assoc, reverse-append, reverse-reverse, length-reverse}
 use Rattle.std.proofs.Math.Seq.{take-append_seam, drop-append_seam, drop-append-add}
@@ -17,6 +17,7 @@ use Rattle.pv_picks.specs.Judge.Rows.{access_reader, compute}
 use Rattle.pv_picks.specs.Judge.Runs.{Judged, Maps, pick_number, content}
 use Rattle.pv_picks.proofs.Readers.{ReadersRelated, evaluate_related}
 use Rattle.account_formulas.specs.Runs.{truly}
+use Rattle.account_formulas.proofs.Steady.{if_same}
 use Rattle.account.specs.Running.{Body, compute_each}
 
 -- Values that come on top one after the other
@@ -55,10 +56,6 @@ module _ (maps : Maps) (sc : Scene) where
   abbrev pub Alike : Next Judged → Next Judged → Type 0
   Alike f g = (s : State) → scene_of s ≡ sc → f s ≡ g s
 
-  if_alike : (b : Bool) (x y u v : Judged) → x ≡ u → y ≡ v → (if b then x else y) ≡ (if b then u else v)
-  if_alike true x y u v p q = p
-  if_alike false x y u v p q = q
-
   pick_alike : (f g : ℤ → Judged) → ((z : ℤ) → f z ≡ g z) → pick_number f ≡ pick_number g
   pick_alike f g h = ap pick_number (fun_ext h)
 
@@ -68,7 +65,7 @@ module _ (maps : Maps) (sc : Scene) where
     where
       go : (o : Option ℤ) → known_or_picked (truly maps) o t a f s ≡ known_or_picked (truly maps) o t a g s
       go (Some n) = h n s e
-      go None = pick_alike _ _ (λ z. if_alike (int_le (pos 0) z) _ _ _ _ (h z (with_length s t a z) e) refl)
+      go None = pick_alike _ _ (λ z. if_same (int_le (pos 0) z) _ _ _ _ (h z (with_length s t a z) e) refl)
 
   missing_alike : (o : Option Cell) (x : Judged) (f g : Value → Next Judged) → ((v : Value) → Alike (f v) (g v)) → (s : State)
       → scene_of s ≡ sc → or_missing (truly maps) o x f s ≡ or_missing (truly maps) o x g s
@@ -82,11 +79,11 @@ module _ (maps : Maps) (sc : Scene) where
 
   access_alike : ReadersRelated Alike (access_reader (truly maps)) (access_reader (truly maps))
   access_alike = record {
-    field = λ c o n p f g h s e. if_alike (nat_eq o 0) _ _ _ _ refl (missing_alike (cells_of s (InField c o n)) _ f g h s e);
-    element = λ t a i p f g h s e. if_alike (nat_eq a 0) _ _ _ _ refl
-        (length_alike t a _ _ (λ n later k. if_alike (within (pos 0) n i) _ _ _ _
+    field = λ c o n p f g h s e. if_same (nat_eq o 0) _ _ _ _ refl (missing_alike (cells_of s (InField c o n)) _ f g h s e);
+    element = λ t a i p f g h s e. if_same (nat_eq a 0) _ _ _ _ refl
+        (length_alike t a _ _ (λ n later k. if_same (within (pos 0) n i) _ _ _ _
         (missing_alike (cells_of later (InElement t a i)) _ f g h later k) refl) s e);
-    length = λ t a p f g h s e. if_alike (nat_eq a 0) _ _ _ _ refl (length_alike t a f g h s e);
+    length = λ t a p f g h s e. if_same (nat_eq a 0) _ _ _ _ refl (length_alike t a f g h s e);
     operation = λ m o a b p f g h. operate_alike m o a b p f g h;
     comparing = λ a b x y h. h;
     matching = λ v w x y h. h;

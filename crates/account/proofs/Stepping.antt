@@ -1,7 +1,9 @@
 -- The step of a thread in an accounted world, by the run of its innermost frame.
-use Rattle.std.proofs.Common.{◌≡◌, ◌<◌, ℕ, zero, suc, Bool, true, false, List, [], ◌∷◌, refl, sym, subst}
+use Rattle.std.proofs.Common.{◌≡◌, ◌≤◌, ◌<◌, ℕ, zero, suc, Bool, true, false, List, [], ◌∷◌, refl, ap, sym, subst, arith}
 use Rattle.std.specs.Prelude.{nat_eq, not}
+use Rattle.pv_fraction.specs.Amounts.{whole}
 use Rattle.pv_picks.specs.Plain.Core.{Program}
+use Rattle.pv_picks.specs.Judge.States.{Resource}
 use Rattle.pv_picks.specs.Machine.Tasks.{Step, Task, Stand}
 use Rattle.pv_picks.specs.Machine.Frames.{Frame}
 use Rattle.pv_picks.specs.Machine.Worlds.{Mode, World, is_held_back}
@@ -10,18 +12,29 @@ use Rattle.account_formulas.specs.Runs.{truly, RestNeverFails}
 use Rattle.account.specs.Running.{ran}
 use Rattle.account.specs.Scoped.{FrameSays}
 use Rattle.account.specs.Frames as account
-use Rattle.account.specs.Frames.{amounts_of, standing_in, opened, AllTakeTurns, IsRunOf, AllWait, AreRunsOf}
+use Rattle.account.specs.Frames.{amounts_of, all_of, standing_in, opened, AllTakeTurns, IsRunOf, AllWait, AreRunsOf}
 use Rattle.account.specs.Accounts.{Account, Kept}
+use Rattle.account.proofs.Sums.{runs_in_total}
 
 pub is_not_null : (n : ℕ) → nat_eq n 0 ≡ false → not_null n ≡ true
 is_not_null zero e = absurd (cc e)
 is_not_null (suc n) e = refl
 
+-- what a thread's runs have is at most the whole
+pub own_most : (p : Program) (w : World) (a : Account p w) (i : ℕ) → i < w.count → (rs : List account.Run) → a.owners.runs i ≡ rs
+    → (q : Resource) → all_of rs q ≤ whole
+own_most p w a i l rs has q =
+    let one = runs_in_total a.owners w.count (suc w.heap.count) q i l in
+    let two = a.sums.most q in
+    let same = ap (λ x. all_of x q) has in
+    omega (arith, one, two, same)
+
 module _ (p : Program) (w : World) (a : Account p w) (i : ℕ) (inside : i < w.count) (f : Frame) (below : List Frame)
     (stack : (w.threads i).frames ≡ f ∷ below) where
-  -- a step keeps the account where it does so by the run of the innermost frame
+  -- a step keeps the account where it does so by the runs of the thread, of which the first is that of the innermost frame
   pub by_run : (mode : Mode)
-      → ((r : account.Run) (rs : List account.Run) → a.owners.runs i ≡ r ∷ rs → IsRunOf p w.committed w.heap f r
+      → ((r : account.Run) (rs : List account.Run) → a.owners.runs i ≡ r ∷ rs
+      → AreRunsOf p w.committed w.heap (f ∷ below) (r ∷ rs)
       → Kept p (act_tasks p w i f below mode f.tasks))
       → Kept p (act p w mode i)
   by_run mode keeps =
@@ -37,7 +50,7 @@ module _ (p : Program) (w : World) (a : Account p w) (i : ℕ) (inside : i < w.c
       of_runs : (rs : List account.Run) → a.owners.runs i ≡ rs → AreRunsOf p w.committed w.heap (f ∷ below) rs
           → Kept p (act_tasks p w i f below mode f.tasks)
       of_runs [] e fits = absurd fits
-      of_runs (r ∷ rs) e fits = keeps r rs e fits.0
+      of_runs (r ∷ rs) e fits = keeps r rs e fits
 
 module _ (p : Program) (w : World) (f : Frame) (r : account.Run) (fits : IsRunOf p w.committed w.heap f r) where
   -- the run of the tasks, and what they say, where they begin with a step

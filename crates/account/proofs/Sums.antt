@@ -5,6 +5,7 @@ use Rattle.std.proofs.lemmas.Option.{none-some, same_Some}
 use Rattle.pv_base.specs.declared.Name.{Name}
 use Rattle.pv_base.specs.Names.{same_name}
 use Rattle.pv_ast.specs.declared.Token.TheVariants as token
+use Rattle.machine_laws.proofs.Members.{below_other}
 use Rattle.pv_picks.specs.Formulas.Heaps.{Heap, at_number}
 use Rattle.pv_picks.specs.Judge.States.{Resource, OfToken}
 use Rattle.pv_picks.specs.Machine.Worlds.{ThreadState}
@@ -13,15 +14,6 @@ use Rattle.account_formulas.specs.Owning.{Amounts, IsPlaced}
 use Rattle.account_formulas.proofs.Basics.{nat_self}
 use Rattle.account.specs.Frames.{Run, all_of}
 use Rattle.account.specs.Owners.{Mail, Owners, letter, sum_below, carried_by, at_thread, at_object, total, with_runs, with_left, with_mail, with_promise, with_guard, SumsFit}
-
-pub below_other : (i n : ℕ) → nat_eq i n ≡ false → i < suc n → i < n
-below_other i n e l = by different
-  where
-    different : i ≡ n → ⊥
-    different k = let self = nat_self n in let same = subst (λ x. nat_eq x n ≡ true) (sym k) self in absurd (cc (e, same))
-
-    by : (i ≡ n → ⊥) → i < n
-    by apart = omega (arith, l, apart)
 
 pub sum_less : (f g : ℕ → ℕ) (n : ℕ) → ((i : ℕ) → f i ≤ g i) → sum_below f n ≤ sum_below g n
 sum_less f g zero h = omega arith
@@ -79,13 +71,6 @@ at_same i x f = ap (λ b. if b then x else f i) (nat_self i)
 
 pub at_other : {A : Type 0} (i j : ℕ) (x : A) (f : ℕ → A) → nat_eq j i ≡ false → at_number i x f j ≡ f j
 at_other i j x f e = ap (λ b. if b then x else f j) e
-
--- two parts are at most the sum
-pub two_parts : (f : ℕ → ℕ) (n i j : ℕ) → i < n → j < n → nat_eq j i ≡ false → f i + f j ≤ sum_below f n
-two_parts f n i j l m e =
-    let k = sum_changed f (at_number i 0 f) n i l (λ x h. at_other i x 0 f h) in
-    let z = at_same i 0 f in let y = at_other i j 0 f e in let s = part_of (at_number i 0 f) n j m in
-    omega (arith, k, z, y, s)
 
 module _ (o : Owners) (threads objects : ℕ) (q : Resource) where
   -- a thread's runs are others

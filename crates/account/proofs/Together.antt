@@ -6,9 +6,10 @@ use Rattle.pv_values.specs.declared.value.Value.TheVariants as value
 use Rattle.pv_picks.specs.Plain.Core.{Constant, Each, Formula, Items, NoItems, Join, Program}
 use Rattle.pv_picks.specs.Formulas.Values.{within, number_in}
 use Rattle.pv_picks.specs.Formulas.Evaluation.{Scene}
-use Rattle.pv_picks.specs.Formulas.Meeting.{Sight, Finding, AllMet, FirstUnmet, first_of, at, unmet_item, unmet_items, unmet_shared}
+use Rattle.pv_picks.specs.Formulas.Meeting.{Sight, AllMet, first_of, at, unmet_item, unmet_items, unmet_shared}
 use Rattle.account_formulas.specs.Owning.{Amounts, Owns, Owns.each, OwnsItems}
 use Rattle.account_formulas.proofs.Meeting.{each_none}
+use Rattle.account_formulas.proofs.Asking.{both_met}
 
 -- items at every position, as a formula
 abbrev pub each_formula : Name → ℤ → ℤ → Items → Formula
@@ -23,10 +24,6 @@ items_of p flags sight scene name low high items R (each l u is_l is_u owns) =
     subst (λ z. OwnsItems p flags sight scene name z high items R) (ap number_in (sym (same_Some (value.Number low) l is_l)))
     (subst (λ z. OwnsItems p flags sight scene name (number_in l) z items R)
     (ap number_in (sym (same_Some (value.Number high) u is_u))) owns)
-
-both_met : (a b : Finding) → first_of a b ≡ AllMet → (a ≡ AllMet) × (b ≡ AllMet)
-both_met AllMet b h = (refl, h)
-both_met (FirstUnmet span) b h = absurd (cc h)
 
 -- what is met position by position is met conjunct by conjunct
 pub shared_none : (sight : Sight) (scene : Scene) (name : Name) (low high : ℤ) (items : Items)

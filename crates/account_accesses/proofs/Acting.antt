@@ -1,16 +1,14 @@
 -- A step of an accounted thread at its first frame, and the world after it.
-use Rattle.std.proofs.Common.{◌≡◌, ℕ, suc, ◌+◌, ◌≤◌, ◌<◌, Bool, true, false, Option, List, [], ◌∷◌, refl, ap, sym, subst, arith}
-use Rattle.std.specs.Prelude.{not}
+use Rattle.std.proofs.Common.{◌≡◌, ℕ, suc, ◌+◌, ◌≤◌, ◌<◌, Option, List, ◌∷◌, refl, ap, sym, subst, arith}
 use Rattle.pv_values.specs.declared.value.Value.{Value}
 use Rattle.pv_values.specs.declared.value.Location.{Location}
-use Rattle.pv_fraction.specs.Amounts.{whole}
 use Rattle.pv_picks.specs.Plain.Core.{Message, Program}
 use Rattle.pv_picks.specs.Formulas.Heaps.{Heap}
 use Rattle.pv_picks.specs.Judge.States.{Resource}
 use Rattle.pv_picks.specs.Machine.Tasks.{AtClose, Step, Task, Stand}
 use Rattle.pv_picks.specs.Machine.Frames.{Frame, settled}
-use Rattle.pv_picks.specs.Machine.Worlds.{Mode, World, has_no_frame, is_held_back, with_frames, with_heap}
-use Rattle.pv_picks.specs.Machine.Steps.{waits_unless, act_step, act_tasks, act_frames, act}
+use Rattle.pv_picks.specs.Machine.Worlds.{Mode, World, has_no_frame, with_frames, with_heap}
+use Rattle.pv_picks.specs.Machine.Steps.{act_step, act_tasks, act}
 use Rattle.account_formulas.specs.Growing.{HeapFits}
 use Rattle.account_formulas.specs.Gaining.{PredicatesFit}
 use Rattle.account_formulas.specs.Owning.{Amounts, KeepsHeld}
@@ -18,10 +16,10 @@ use Rattle.account_formulas.specs.Still.{IsStill}
 use Rattle.account.specs.Scoped.{TasksSay}
 use Rattle.account.specs.Frames as account
 use Rattle.account.specs.Frames.{amounts_of, all_of, standing_in, called_of, IsRunOf, AllWait, AreRunsOf}
-use Rattle.account.specs.Owners.{nothing, at_thread, total}
+use Rattle.account.specs.Owners.{nothing, total}
 use Rattle.account.specs.Messages.{TasksExchange}
 use Rattle.account.specs.Accounts.{Account, Kept}
-use Rattle.account.proofs.Sums.{part_of}
+use Rattle.account.proofs.Stepping.{own_most, by_run}
 use Rattle.account.specs.Going.{Goes}
 use Rattle.account.proofs.LocalWork.{called_same, settled_goes, below_settled}
 use Rattle.account_accesses.specs.Standing.{StandsAt}
@@ -35,30 +33,11 @@ pub acts : (p : Program) (w : World) (a : Account p w) (i : ℕ) (mode : Mode) (
     → (i < w.count → (r : account.Run) (rs : List account.Run) → a.owners.runs i ≡ r ∷ rs → IsRunOf p w.committed w.heap f r
     → AllWait p w.committed w.heap (called_of f r) below rs → Kept p (act_step p w i f below mode step rest))
     → Kept p (act p w mode i)
-acts p w a i mode step f below rest at kept =
-    subst (λ fs. Kept p (act_frames p w mode i fs)) (sym at.frames)
-    (subst (λ ts. Kept p (waits_unless (not (is_held_back w i)) (act_tasks p w i f below mode ts))) (sym at.tasks)
-    (held_back (not (is_held_back w i)) (by_runs (a.owners.runs i) refl
-    (subst (λ fs. AreRunsOf p w.committed w.heap fs (a.owners.runs i)) at.frames (a.threads.frames i inside)))))
+acts p w a i mode step f below rest at kept = by_run p w a i inside f below at.frames mode (λ r rs e fits.
+    subst (λ ts. Kept p (act_tasks p w i f below mode ts)) (sym at.tasks) (kept inside r rs e fits.0 fits.1))
   where
     inside : i < w.count
     inside = a.threads.live i (ap has_no_frame at.frames)
-
-    held_back : (b : Bool) → Kept p (act_step p w i f below mode step rest)
-        → Kept p (waits_unless b (act_step p w i f below mode step rest))
-    held_back true k = k
-    held_back false k = tt
-
-    by_runs : (rs : List account.Run) → a.owners.runs i ≡ rs → AreRunsOf p w.committed w.heap (f ∷ below) rs
-        → Kept p (act_step p w i f below mode step rest)
-    by_runs [] e fits = absurd fits
-    by_runs (r ∷ rs) e fits = kept inside r rs e fits.0 fits.1
-
--- what a thread's runs have is at most the whole
-pub runs_at_most : (p : Program) (w : World) (a : Account p w) (i : ℕ) → i < w.count → (q : Resource)
-    → all_of (a.owners.runs i) q ≤ whole
-runs_at_most p w a i inside q =
-    let one = part_of (λ j. at_thread a.owners j q) w.count i inside in let two = a.sums.most q in omega (arith, one, two)
 
 -- a thread has done its step, up to its local work, over a later heap
 pub record Stepped (p : Program) (w : World) (a : Account p w) (i : ℕ) (f : Frame) (below : List Frame)
@@ -114,9 +93,7 @@ steps_on p w a i inside f below stack value g s = accounted p w a i inside (late
   where
     done : Goes p w.committed (later w value) (settled g) s.run
     done = settled_goes p w.committed (later w value) s.heap s.predicates g s.run s.fits s.says (λ q.
-        let one = runs_at_most p w a i inside q in
-        let same = ap (λ rs. all_of rs q) s.had in
-        let less = s.less q in omega (arith, one, same, less))
+        let one = own_most p w a i inside (s.old ∷ s.others) s.had q in let less = s.less q in omega (arith, one, less))
 
 -- the same where the heap stays
 pub steps_here : (p : Program) (w : World) (a : Account p w) → HeapFits p w.heap → PredicatesFit p w.heap

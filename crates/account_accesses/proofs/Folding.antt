@@ -44,8 +44,9 @@ use Rattle.account.proofs.Typing.{arguments_typed, object_typed}
 use Rattle.account.proofs.Working.{NeverOn, TurnsAround}
 use Rattle.account.proofs.LocalWork.{named_so}
 use Rattle.account_accesses.specs.Statements.{FoldKeeps}
-use Rattle.account_accesses.proofs.Acting.{acts, steps_here, runs_at_most}
-use Rattle.account_accesses.proofs.Reading.{tested, fails, not_null_of}
+use Rattle.account.proofs.Stepping.{is_not_null, own_most}
+use Rattle.account_accesses.proofs.Acting.{acts, steps_here}
+use Rattle.account_accesses.proofs.Reading.{tested, fails}
 use Rattle.account_accesses.proofs.Speaking.{left_goes}
 
 -- what stands of a fold: the predicate, its object and arguments, and the types behind it
@@ -150,7 +151,7 @@ fold_keeps class predicate count span p w support a i f below rest at mode =
         }
 
         most : (q : Resource) → amounts_of r q ≤ whole
-        most q = let one = runs_at_most p w a i inside q in let same = ap (λ l. all_of l q) had in omega (arith, one, same)
+        most q = let one = own_most p w a i inside (r ∷ rs) had q in omega (arith, one)
 
         done : nat_eq (object_under count f.values) 0 ≡ false
             → RestNeverFails r.taken (λ maps. fold_in (truly maps) (Some s.body) class (object_under count f.values)
@@ -174,7 +175,7 @@ fold_keeps class predicate count span p w support a i f below rest at mode =
             (λ q. let one = gave.sum q in let two = most q in omega (arith, one, two)) in
             subst (λ b. Kept p (needs b check.Null span
             (act_fold p w i f below (predicate_named p class predicate) (object_under count f.values) count span rest)))
-            (sym (not_null_of (object_under count f.values) full))
+            (sym (is_not_null (object_under count f.values) full))
             (subst (λ o. Kept p (act_fold p w i f below o (object_under count f.values) count span rest)) (sym s.named)
             (subst (λ b. Kept p (needs b check.Fold span
             (Result.Went (with_frames w i (settled (pops (suc count) f rest) ∷ below)))))

@@ -32,7 +32,8 @@ use Rattle.account_accesses.specs.Standing.{StandsAt}
 use Rattle.account_accesses.specs.Supports.{Supports}
 use Rattle.account_accesses.specs.Statements.{LoopEntryKeeps, LoopKeepKeeps}
 use Rattle.account.proofs.Later.{grown_same, keeps_same}
-use Rattle.account_accesses.proofs.Acting.{acts, runs_at_most, steps_on}
+use Rattle.account.proofs.Stepping.{own_most}
+use Rattle.account_accesses.proofs.Acting.{acts, steps_on}
 use Rattle.account_accesses.proofs.Speaking.{gives, owned_in_scene, met_in_frame}
 use Rattle.account_accesses.proofs.Turns.{HeadGoes, turns_go}
 
@@ -53,7 +54,7 @@ module _ (p : Program) (w : World) (support : Supports p w) (a : Account p w) (i
     (fits : IsRunOf p w.committed w.heap f r) (waits : AllWait p w.committed w.heap (called_of f r) below rs)
     (l : Loop) (rest : List Task) (bare : f.values ≡ []) where
   most : (q : Resource) → amounts_of r q ≤ whole
-  most q = let one = runs_at_most p w a i inside q in let same = ap (λ x. all_of x q) had in omega (arith, one, same)
+  most q = let one = own_most p w a i inside (r ∷ rs) had q in omega (arith, one)
 
   -- the head of a loop, in the world
   abbrev AtHeadGoes : Check → Type 0

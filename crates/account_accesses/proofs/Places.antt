@@ -23,6 +23,7 @@ use Rattle.pv_picks.specs.Typing.Frames.{HasType}
 use Rattle.account_formulas.specs.Sights.{Stands}
 use Rattle.account_formulas.specs.Owning.{Amounts, IsPlaced, KeepsHeld}
 use Rattle.account_formulas.specs.Growing.{HeapFits}
+use Rattle.account_formulas.proofs.Asking.{location_self}
 use Rattle.account_formulas.proofs.Basics.{nat_self, number_self, both}
 use Rattle.account_formulas.proofs.Raising.{some_of}
 use Rattle.account.proofs.Later.{Grown}
@@ -84,10 +85,6 @@ one_resource heap null x (OfToken t c o) place a b h k = absurd (none-some place
 one_resource heap null x (OfLock c o) place a b h k = absurd (none-some place k)
 one_resource heap null (OfToken t c o) y place a b h k = absurd (none-some place h)
 one_resource heap null (OfLock c o) y place a b h k = absurd (none-some place h)
-
-pub location_self : (l : Location) → same_location l l ≡ true
-location_self (location.Field o n) = both _ _ (nat_self o) (nat_self n.0)
-location_self (location.Cell a i) = both _ _ (nat_self a) (number_self i)
 
 module _ (heap : Heap) (place : Location) (v : Value) where
   -- a resource at a place stands there

@@ -37,6 +37,7 @@ use Rattle.account.specs.Frames.{standing_in, opened, AllTakeTurns, IsRunOf}
 use Rattle.account.specs.Accounts.{Account, Kept}
 use Rattle.account.specs.Going.{Goes}
 use Rattle.account.proofs.Working.{NeverOn, TurnsAround, stays_in}
+use Rattle.account.proofs.Stepping.{is_not_null}
 use Rattle.account_accesses.specs.Standing.{StandsAt}
 use Rattle.account_accesses.specs.Supports.{Supports}
 use Rattle.account_accesses.specs.Statements.{ReadKeeps}
@@ -104,10 +105,6 @@ found flags present taken s fits x k span never = go (s.held x) refl never
               (λ picks. ap (λ v. k (all_maps taken picks) v s) (held.settled picks)) n;
         }
 
-pub not_null_of : (n : ℕ) → nat_eq n 0 ≡ false → not_null n ≡ true
-not_null_of zero e = absurd (cc e)
-not_null_of (suc n) e = refl
-
 -- the frame behind a read
 abbrev pub behind_read : Frame → Spot → List Task → Value → Frame
 behind_read f spot rest v = record f { values = v ∷ drop (breadth spot) f.values; tasks = rest }
@@ -134,14 +131,14 @@ module _ (p : Program) (w : World) (support : Supports p w) where
       tested r.taken (nat_eq (reference_in (top f.values)) 0) _ _ _ never (λ e n. absurd (fails r.taken check.Null span n))
       (λ e n. let g = found w.committed w.heap r.taken r.state fits.state.fits (InField class (reference_in (top f.values)) name)
       (λ maps v. ran (truly maps) p r.body r.inner rest (v ∷ drop 1 f.values)) span n in
-      record { value = g.value; stands = g.stands; owner = not_null_of (reference_in (top f.values)) e; never = g.never })
+      record { value = g.value; stands = g.stands; owner = is_not_null (reference_in (top f.values)) e; never = g.never })
   reads_go f r fits (ElementOf type) span rest never =
       tested r.taken (nat_eq (reference_in (second f.values)) 0) _ _ _ never (λ e n. absurd (fails r.taken check.Null span n))
       (λ e n. length_known r.taken r.state type (reference_in (second f.values)) (number_in (top f.values)) span _ _ n
       (λ n. let g = found w.committed w.heap r.taken r.state fits.state.fits
       (InElement type (reference_in (second f.values)) (number_in (top f.values)))
       (λ maps v. ran (truly maps) p r.body r.inner rest (v ∷ drop 2 f.values)) span n in
-      record { value = g.value; stands = g.stands; owner = not_null_of (reference_in (second f.values)) e; never = g.never }))
+      record { value = g.value; stands = g.stands; owner = is_not_null (reference_in (second f.values)) e; never = g.never }))
 
   second_typed : (a b : PvType) (types : List PvType) (vs : List Value) → typed.ValuesFit w.heap (a ∷ b ∷ types) vs
       → HasType w.heap b (second vs)

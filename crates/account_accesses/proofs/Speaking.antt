@@ -1,11 +1,9 @@
 -- A formula of a frame's body is given up by its run, where it is met in the frame. And the run goes on with what is left.
-use Rattle.std.proofs.Common.{◌≡◌, ◌⊎◌, inl, inr, ℕ, ◌+◌, ◌≤◌, Bool, IsTrue, Option, Some, None, List, refl, ap, sym, ◌∙◌, arith}
+use Rattle.std.proofs.Common.{◌≡◌, ◌⊎◌, inl, inr, ℕ, ◌+◌, ◌≤◌, Bool, IsTrue, Some, None, List, refl, ap, sym, ◌∙◌, arith}
 use Rattle.std.specs.Prelude.{unwrap_or}
 use Rattle.std.proofs.lemmas.Option.{none-some}
-use Rattle.pv_base.specs.declared.Name.{Name}
 use Rattle.pv_ast.specs.declared.PvType.{PvType}
 use Rattle.pv_values.specs.declared.value.Value.{Value}
-use Rattle.pv_values.specs.Typing.{Kind}
 use Rattle.pv_picks.specs.declared.check.Check.{Check}
 use Rattle.pv_picks.specs.Plain.Core.{Formula, Program}
 use Rattle.pv_picks.specs.Formulas.Heaps.{Heap}
@@ -20,7 +18,7 @@ use Rattle.pv_picks.specs.Judge.Runs.{Judged, Maps}
 use Rattle.pv_picks.specs.Typing.Frames as typed
 use Rattle.pv_picks.specs.Typing.Frames.{HasType}
 use Rattle.core_trees.specs.Formulas.{FormulaFits}
-use Rattle.account_formulas.specs.Sights.{Lengths, ValuesFit, SceneFits}
+use Rattle.account_formulas.specs.Sights.{Lengths, SceneFits}
 use Rattle.account_formulas.specs.Runs.{truly, RestNeverFails}
 use Rattle.account_formulas.specs.Owning.{Amounts, Owns, HasTrees}
 use Rattle.account_formulas.specs.Growing.{StateFits, Place, HeapFits}
@@ -33,20 +31,8 @@ use Rattle.account.specs.Frames as account
 use Rattle.account.specs.Running.{ran}
 use Rattle.account.specs.Frames.{amounts_of, sight_in, home_in, standing_in, IsRunOf}
 use Rattle.account.specs.Going.{Goes}
+use Rattle.account.proofs.Ended.{past_fits}
 use Rattle.account.proofs.Working.{SaysOn, TurnsAround, frame_says}
-
--- the values of an earlier heap fit also with the present lengths
-pub past_fits : (kinds : Name → Name → Option Kind) (present past : Heap) → ValuesFit kinds present past
-    → ValuesFit kinds present (at_lengths_of present past)
-past_fits kinds present past v = record {
-  fields = v.fields;
-  numbers = v.numbers;
-  truths = v.truths;
-  no_fields = v.no_fields;
-  no_elements = v.no_elements;
-  beyond_fields = v.beyond_fields;
-  beyond_elements = v.beyond_elements;
-}
 
 module _ (p : Program) (flags : ℕ → Bool) (present : Heap) (f : Frame) (r : account.Run)
     (fits : IsRunOf p flags present f r) where

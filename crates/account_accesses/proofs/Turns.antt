@@ -46,7 +46,7 @@ use Rattle.account.specs.Scoped.{TasksSay, evaluates, turns_in, turns_past}
 use Rattle.account.specs.Frames as account
 use Rattle.account.specs.Frames.{Part, outer_of, amounts_of, standing_in, home_in, opened, StateIs, OldIs, BodyIs, TakesTurns, AllTakeTurns, IsRunOf}
 use Rattle.account_accesses.proofs.Conditions.{Settled, settle}
-use Rattle.account_accesses.proofs.Speaking.{past_fits}
+use Rattle.account.proofs.Ended.{past_fits}
 
 -- The variables of a loop get the values that they have
 

@@ -48,7 +48,8 @@ use Rattle.account_accesses.specs.Supports.{Supports}
 use Rattle.account_accesses.specs.Statements.{WriteKeeps}
 use Rattle.account.proofs.Later.{Grown, held_later, trees_later, body_later, old_later, turns_later, stack_later, below_later}
 use Rattle.account_accesses.proofs.Acting.{acts, steps_on}
-use Rattle.account_accesses.proofs.Reading.{tested, fails, length_known, not_null_of}
+use Rattle.account.proofs.Stepping.{is_not_null}
+use Rattle.account_accesses.proofs.Reading.{tested, fails, length_known}
 use Rattle.account_accesses.proofs.Places.{location_of, one_resource, value_there, stands_written, written_keeps, written_grown, written_fits}
 
 pub second_is : (values : List Value) → top (drop 1 values) ≡ second values
@@ -82,7 +83,7 @@ writes_go p f r (FieldOf class name) span rest never =
       stands = ap (λ v. Some (location.Field (reference_in v) name)) (sym (second_is f.values));
       much = at_most whole _ e;
       owner = subst (λ v. not_null (reference_in v) ≡ true) (sym (second_is f.values))
-          (not_null_of (reference_in (second f.values)) full);
+          (is_not_null (reference_in (second f.values)) full);
       never = n;
     })
     (λ e n. absurd (fails r.taken check.WritePermission span n)))
@@ -98,7 +99,7 @@ writes_go p f r (ElementOf type) span rest never =
           ∙ ap (λ v. Some (location.Cell (reference_in (second (drop 1 f.values))) (number_in v))) (sym (second_is f.values));
       much = at_most whole _ e;
       owner = subst (λ v. not_null (reference_in v) ≡ true) (sym (third_is f.values))
-          (not_null_of (reference_in (top (drop 2 f.values))) full);
+          (is_not_null (reference_in (top (drop 2 f.values))) full);
       never = n;
     })
     (λ e n. absurd (fails r.taken check.WritePermission span n))))

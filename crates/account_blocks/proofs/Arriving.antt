@@ -1,5 +1,5 @@
 -- A member that arrives at a barrier in an accounted world: what the barrier asks of it is left for all.
-use Rattle.std.proofs.Common.{◌≡◌, ℕ, zero, suc, ◌+◌, ◌≤◌, ◌<◌, ℤ, Bool, true, false, not, if◌then◌else◌, Some, None, List, [], ◌∷◌, refl, ap, sym, subst, ◌∙◌, arith}
+use Rattle.std.proofs.Common.{◌≡◌, ℕ, zero, suc, ◌+◌, ◌≤◌, ◌<◌, ℤ, Bool, true, false, if◌then◌else◌, Some, None, List, [], ◌∷◌, refl, ap, sym, subst, ◌∙◌, arith}
 use Rattle.std.specs.Prelude.{nat_eq}
 use Rattle.std.proofs.lemmas.Option.{none-some}
 use Rattle.pv_base.specs.declared.Name.{Name}
@@ -24,8 +24,8 @@ use Rattle.account_formulas.specs.Giving.{Gave, with_left}
 use Rattle.account_formulas.proofs.Lengths.{never_number, goes_on_same}
 use Rattle.account_formulas.proofs.Alike.{agree_back, agree_then}
 use Rattle.account.specs.Running.{ran}
-use Rattle.pv_picks.specs.Machine.Worlds.{MemberOf, Mode, World, is_held_back, with_frames}
-use Rattle.pv_picks.specs.Machine.Steps.{Result, needs_met, waits_unless, as_member, act_arrive, act, act_frames, act_tasks}
+use Rattle.pv_picks.specs.Machine.Worlds.{MemberOf, Mode, World, with_frames}
+use Rattle.pv_picks.specs.Machine.Steps.{Result, needs_met, as_member, act_arrive, act, act_tasks}
 use Rattle.pv_picks.specs.Typing.Expressions.{silent, type_in}
 use Rattle.pv_picks.specs.Formulas.Values.{within}
 use Rattle.core_trees.specs.Formulas.{BarrierFits, SharedFits}
@@ -45,13 +45,15 @@ use Rattle.account.specs.Messages.{TasksExchange}
 use Rattle.account.specs.Accounts.{Account, Kept}
 use Rattle.account.proofs.Sums.{sum_less, at_same, at_other}
 use Rattle.account.proofs.Moving.{first_same, GoesOn, first_goes_on, others_here, still_receives}
+use Rattle.account.proofs.Stepping.{by_run}
 use Rattle.account_blocks.proofs.Moving.{as_member_of, moved}
 use Rattle.account_blocks.proofs.Sites.{StandsAt, site_scene, site_fits, place_at, same_scenes, at_own, at_an_arrival, goes_behind}
 use Rattle.account_blocks.proofs.Messages.{nothing_fits}
 use Rattle.account_blocks.proofs.Members.{member, Stood, stood, scenes_agree, part_of_all}
 use Rattle.account.proofs.Locks.{locks_less, goes_on_locked}
-use Rattle.account_blocks.proofs.Turns.{never_turn}
-use Rattle.account_blocks.proofs.Staying.{stays_on, number_within}
+use Rattle.account.proofs.Choosing.{never_turn}
+use Rattle.account_blocks.proofs.Staying.{stays_on}
+use Rattle.account.proofs.Numbers.{number_within}
 
 first_step : (x y : Step) (xs ys : List Task) → Stand x ∷ xs ≡ Stand y ∷ ys → x ≡ y
 first_step x y xs ys e = cc e
@@ -291,13 +293,9 @@ module _ (p : Program) (w : World) (a : Account p w) (sound : HeapFits p w.heap)
       by (suc n) = by n
 
   pub arrive_keeps : (mode : Mode) → Kept p (act p w mode i)
-  arrive_keeps mode = subst (λ fs. Kept p (act_frames p w mode i fs)) (sym stack) (held (not (is_held_back w i))
+  arrive_keeps mode = by_run p w a i inside f [] stack mode (λ r rs e fits.
       (subst (λ ts. Kept p (act_tasks p w i f [] mode ts)) (sym is)
       (subst (λ z. Kept p (as_member p w i f [] z [] check.BarrierRequires span
       (λ block position. act_arrive p w i f [] barrier span rest))) (sym role)
       (subst (λ o. Kept p (needs_met o check.BarrierRequires (Result.Went (with_frames w i (settled behind ∷ []))))) (sym met)
       (subst (λ g. Account p (with_frames w i (g ∷ []))) (sym settled_there) arrived)))))
-    where
-      held : (x : Bool) → Kept p (act_tasks p w i f [] mode f.tasks) → Kept p (waits_unless x (act_tasks p w i f [] mode f.tasks))
-      held true h = h
-      held false h = tt

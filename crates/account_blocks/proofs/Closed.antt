@@ -23,7 +23,7 @@ use Rattle.account.specs.Accounts.{Account}
 use Rattle.account.proofs.Sums.{sums_less}
 use Rattle.account.proofs.Moving.{first_same}
 use Rattle.account_blocks.proofs.Numbers.{number_of_member, each_one}
-use Rattle.account.proofs.Bottom.{role_moves, member_moves}
+use Rattle.account.proofs.Bottom.{bottom_exchanges, role_moves, member_moves}
 
 -- the thread of a number, where another one has another first frame
 abbrev pub thread_on : World → ℕ → Frame → List Frame → Bool → ℕ → Thread
@@ -183,11 +183,6 @@ module _ (p : Program) (w : World) (a : Account p w) (i : ℕ) (inside : i < w.c
         arrived_at true h q qs barrier span others e has t =
             absurd (m.leaves barrier span others (ap (λ z. z.tasks) (first_same g h below [] e) ∙ t))
 
-    exchange_below : (S R : Message → Type 0) (xs : List Frame) → TasksExchange S R (bottom_tasks (f ∷ xs))
-        → TasksExchange S R (bottom_tasks (g ∷ xs))
-    exchange_below S R [] h = m.exchanges S R h
-    exchange_below S R (x ∷ xs) h = h
-
     pub closed : Account p (with_frames w i (g ∷ below))
     closed = record {
       owners = after;
@@ -257,7 +252,8 @@ module _ (p : Program) (w : World) (a : Account p w) (i : ℕ) (inside : i < w.c
             (bottom_tasks (thread_on w i g below x j).frames)
         known_at j l d position is false e = a.mail.known j l d position is
         known_at j l d position is true e =
-            exchange_below (IsKnown (a.owners.messages d)) (IsKnown (a.owners.messages d)) below
+            bottom_exchanges (IsKnown (a.owners.messages d)) (IsKnown (a.owners.messages d)) f g
+            (m.exchanges (IsKnown (a.owners.messages d)) (IsKnown (a.owners.messages d))) below
             (subst (λ fs. TasksExchange (IsKnown (a.owners.messages d)) (IsKnown (a.owners.messages d)) (bottom_tasks fs))
             (ap (λ z. (w.threads z).frames) (naturals_same j i e) ∙ stack) (a.mail.known j l d position is))
 
@@ -265,5 +261,6 @@ module _ (p : Program) (w : World) (a : Account p w) (i : ℕ) (inside : i < w.c
             → (ReceivesNone label (thread_on w i g below x j).frames → ⊥) → ReceivesNone label (w.threads j).frames → ⊥
         receives_still j label false e some none = some none
         receives_still j label true e some none =
-            some (exchange_below (λ n. Unit {0}) (λ n. same_name label n.label ≡ false) below
+            some (bottom_exchanges (λ n. Unit {0}) (λ n. same_name label n.label ≡ false) f g
+            (m.exchanges (λ n. Unit {0}) (λ n. same_name label n.label ≡ false)) below
             (subst (λ fs. ReceivesNone label fs) (ap (λ z. (w.threads z).frames) (naturals_same j i e) ∙ stack) none))

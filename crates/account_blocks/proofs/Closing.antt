@@ -1,5 +1,5 @@
 -- A thread that waits for the members of a block in an accounted world: it waits, or goes on with what they left.
-use Rattle.std.proofs.Common.{◌≡◌, ℕ, ◌+◌, ◌≤◌, ◌<◌, ℤ, pos, Bool, true, false, not, if◌then◌else◌, Some, None, List, [], ◌∷◌, refl, ap, sym, subst, ◌∙◌, arith}
+use Rattle.std.proofs.Common.{◌≡◌, ℕ, ◌+◌, ◌≤◌, ◌<◌, ℤ, pos, Bool, true, false, if◌then◌else◌, Some, None, List, ◌∷◌, refl, ap, sym, subst, ◌∙◌, arith}
 use Rattle.std.specs.Prelude.{◌-ℤ◌, ◌+ℤ◌}
 use Rattle.std.proofs.lemmas.Option.{none-some}
 use Rattle.pv_base.specs.declared.Name.{Name}
@@ -10,12 +10,13 @@ use Rattle.pv_picks.specs.Formulas.Heaps.{at_number}
 use Rattle.pv_picks.specs.Formulas.Meeting.{sum_of_each}
 use Rattle.pv_picks.specs.Judge.States.{Resource, OfLock, scene_of}
 use Rattle.pv_picks.specs.Machine.Tasks.{AtClose, Task, Stand}
+use Rattle.pv_picks.specs.Machine.Starts.{field_kind}
 use Rattle.pv_picks.specs.Machine.Frames.{Frame, goes_on, settled, only_now, at_lengths_of, body_scene}
 use Rattle.account_formulas.specs.Runs.{truly}
 use Rattle.account_formulas.proofs.Alike.{scene_typed}
 use Rattle.account.specs.Running.{ran}
-use Rattle.pv_picks.specs.Machine.Worlds.{Mode, World, OpenBlock, is_held_back, is_member, has_ended, members_ended, with_frames, member_count}
-use Rattle.pv_picks.specs.Machine.Steps.{Result, waits_unless, act, act_frames, act_tasks}
+use Rattle.pv_picks.specs.Machine.Worlds.{Mode, World, OpenBlock, is_member, has_ended, members_ended, with_frames, member_count}
+use Rattle.pv_picks.specs.Machine.Steps.{Result, waits_unless, act, act_tasks}
 use Rattle.pv_picks.specs.Typing.Expressions.{Home, silent, type_in}
 use Rattle.pv_picks.specs.Formulas.Values.{within, width, or_zero}
 use Rattle.core_trees.specs.Formulas.{in_class}
@@ -43,7 +44,9 @@ use Rattle.account.proofs.Sums.{sum_changed, part_of, at_same, at_other}
 use Rattle.account.proofs.Together.{each_formula}
 use Rattle.account_blocks.proofs.Closed.{closed}
 use Rattle.account_blocks.proofs.Numbers.{shares_up, given_up, none_up, is_member_at, each_one, position_number}
-use Rattle.account_blocks.proofs.Sites.{at_lengths, goes_behind}
+use Rattle.account.proofs.Ended.{past_fits}
+use Rattle.account.proofs.Stepping.{by_run}
+use Rattle.account_blocks.proofs.Sites.{goes_behind}
 
 module _ (p : Program) (w : World) (a : Account p w) (sound : HeapFits p w.heap) (framed : PredicatesFit p w.heap) (i : ℕ)
     (inside : i < w.count) (f : Frame) (below : List Frame) (stack : (w.threads i).frames ≡ f ∷ below) (r : Run)
@@ -90,7 +93,7 @@ module _ (p : Program) (w : World) (a : Account p w) (sound : HeapFits p w.heap)
     past = at_lengths_of w.heap r.past;
     old = r.state.old;
     known = fits.0.old.known;
-    before = at_lengths p w.heap r.past fits.0.old.fits;
+    before = past_fits (field_kind p) w.heap r.past fits.0.old.fits;
     agrees = fits.0.old.agrees;
     lengths = λ array n e. e;
   }
@@ -236,22 +239,12 @@ module _ (p : Program) (w : World) (a : Account p w) (sound : HeapFits p w.heap)
 pub close_keeps : (p : Program) (w : World) (a : Account p w) → HeapFits p w.heap → PredicatesFit p w.heap → (i : ℕ)
     → i < w.count → (f : Frame) (below : List Frame) → (w.threads i).frames ≡ f ∷ below → (c : ℕ) (rest : List Task)
     → f.tasks ≡ Stand (AtClose c) ∷ rest → (mode : Mode) → Kept p (act p w mode i)
-close_keeps p w a sound framed i inside f below stack c rest tasks mode =
-    subst (λ fs. Kept p (act_frames p w mode i fs)) (sym stack) (held (not (is_held_back w i))
-    (subst (λ ts. Kept p (act_tasks p w i f below mode ts)) (sym tasks) (by_test (members_ended w (w.blocks c)) refl)))
+close_keeps p w a sound framed i inside f below stack c rest tasks mode = by_run p w a i inside f below stack mode
+    (λ r rs e fits. subst (λ ts. Kept p (act_tasks p w i f below mode ts)) (sym tasks)
+    (by_test r rs e fits (members_ended w (w.blocks c)) refl))
   where
-    held : (x : Bool) → Kept p (act_tasks p w i f below mode f.tasks)
-        → Kept p (waits_unless x (act_tasks p w i f below mode f.tasks))
-    held true h = h
-    held false h = tt
-
-    by_runs : members_ended w (w.blocks c) ≡ true → (rs : List Run) → a.owners.runs i ≡ rs
-        → AreRunsOf p w.committed w.heap (f ∷ below) rs → Account p (with_frames w i (settled (goes_on f rest) ∷ below))
-    by_runs all [] e fits = absurd fits
-    by_runs all (r ∷ rs) e fits = went_on p w a sound framed i inside f below stack r rs e fits c rest tasks all
-
-    by_test : (x : Bool) → members_ended w (w.blocks c) ≡ x
+    by_test : (r : Run) (rs : List Run) → a.owners.runs i ≡ r ∷ rs → AreRunsOf p w.committed w.heap (f ∷ below) (r ∷ rs)
+        → (x : Bool) → members_ended w (w.blocks c) ≡ x
         → Kept p (waits_unless x (Result.Went (with_frames w i (settled (goes_on f rest) ∷ below))))
-    by_test true e = by_runs e (a.owners.runs i) refl
-        (subst (λ fs. AreRunsOf p w.committed w.heap fs (a.owners.runs i)) stack (a.threads.frames i inside))
-    by_test false e = tt
+    by_test r rs e fits true all = went_on p w a sound framed i inside f below stack r rs e fits c rest tasks all
+    by_test r rs e fits false all = tt

@@ -1,11 +1,12 @@
 -- A member that ends in an accounted world: what it leaves suffices for the postcondition of its block.
-use Rattle.std.proofs.Common.{◌≡◌, ℕ, ◌≤◌, ◌<◌, ℤ, Bool, true, false, not, Some, None, List, [], ◌∷◌, refl, ap, sym, subst, ◌∙◌, arith}
+use Rattle.std.proofs.Common.{◌≡◌, ℕ, ◌≤◌, ◌<◌, ℤ, true, Some, None, List, [], ◌∷◌, refl, ap, sym, subst, ◌∙◌, arith}
 use Rattle.std.proofs.lemmas.Option.{none-some}
 use Rattle.pv_ast.specs.declared.PvType.TheVariants.{Int}
 use Rattle.pv_picks.specs.declared.check.Check.TheVariants as check
 use Rattle.pv_picks.specs.Plain.Core.{Formula, Parameter, Program, Team}
 use Rattle.pv_picks.specs.Formulas.Meeting.{AllMet, at, unmet}
 use Rattle.pv_picks.specs.Judge.States.{Resource, scene_of}
+use Rattle.pv_picks.specs.Machine.Starts.{field_kind}
 use Rattle.pv_picks.specs.Machine.Frames.{Frame, only_now, at_lengths_of, sight_of, contract_scene}
 use Rattle.pv_picks.specs.Judge.Judging.{finish, exhale_at_site}
 use Rattle.account_formulas.specs.Runs.{truly, RestNeverFails}
@@ -13,8 +14,8 @@ use Rattle.account_formulas.specs.Giving.{Gave}
 use Rattle.account_formulas.proofs.Alike.{agree_at, agree_back, scene_typed}
 use Rattle.account_formulas.proofs.Exhaling.{position_fits}
 use Rattle.account.specs.Running.{ran}
-use Rattle.pv_picks.specs.Machine.Worlds.{MemberOf, Mode, World, is_held_back, with_frames}
-use Rattle.pv_picks.specs.Machine.Steps.{Result, needs_met, waits_unless, act_end, act, act_frames, act_tasks}
+use Rattle.pv_picks.specs.Machine.Worlds.{MemberOf, Mode, World, with_frames}
+use Rattle.pv_picks.specs.Machine.Steps.{Result, needs_met, act_end, act, act_tasks}
 use Rattle.pv_picks.specs.Typing.Expressions.{Home, silent, type_in}
 use Rattle.pv_picks.specs.Formulas.Values.{within}
 use Rattle.core_trees.specs.Formulas.{in_class}
@@ -30,11 +31,13 @@ use Rattle.account.specs.Frames.{Run, amounts_of, IsRunOf}
 use Rattle.account.specs.Owners.{Opened, without_locks}
 use Rattle.account.specs.Blocks.{scene_at, seed}
 use Rattle.account.specs.Accounts.{Account, Kept}
+use Rattle.account.proofs.Stepping.{by_run}
 use Rattle.account_blocks.proofs.Ended.{ended}
-use Rattle.account_blocks.proofs.Sites.{site_scene, at_lengths, same_scenes}
+use Rattle.account.proofs.Ended.{past_fits}
+use Rattle.account_blocks.proofs.Sites.{site_scene, same_scenes}
 use Rattle.account_blocks.proofs.Members.{member, Opener, opener, Stood, stood, scenes_agree, part_of_all}
 use Rattle.account.proofs.Locks.{locks_less, goes_on_locked}
-use Rattle.account_blocks.proofs.Staying.{number_within}
+use Rattle.account.proofs.Numbers.{number_within}
 
 module _ (p : Program) (w : World) (a : Account p w) (sound : HeapFits p w.heap) (framed : PredicatesFit p w.heap) (i : ℕ)
     (inside : i < w.count) (f : Frame) (stack : (w.threads i).frames ≡ f ∷ []) (b : ℕ) (spot : ℤ)
@@ -75,7 +78,7 @@ module _ (p : Program) (w : World) (a : Account p w) (sound : HeapFits p w.heap)
     past = at_lengths_of w.heap r.past;
     old = r.state.old;
     known = fits.old.known;
-    before = at_lengths p w.heap r.past fits.old.fits;
+    before = past_fits (field_kind p) w.heap r.past fits.old.fits;
     agrees = fits.old.agrees;
     lengths = λ array n e. e;
   }
@@ -163,7 +166,7 @@ module _ (p : Program) (w : World) (a : Account p w) (sound : HeapFits p w.heap)
       (record { now = later; old = at_lengths_of w.heap o.run.past }) l o.fits.old.agrees l.lengths (λ array n e. e))
 
   pub end_keeps : (mode : Mode) → Kept p (act p w mode i)
-  end_keeps mode = subst (λ fs. Kept p (act_frames p w mode i fs)) (sym stack) (held (not (is_held_back w i))
+  end_keeps mode = by_run p w a i inside f [] stack mode (λ r rs e fits.
       (subst (λ ts. Kept p (act_tasks p w i f [] mode ts)) (sym is)
       (subst (λ z. Kept p (act_end p w i f [] z [])) (sym role)
       (subst (λ x. Kept p (needs_met x check.BlockEnsures (Result.Went (with_frames w i [])))) (sym met)
@@ -171,7 +174,3 @@ module _ (p : Program) (w : World) (a : Account p w) (sound : HeapFits p w.heap)
       (λ q. let n = locks_less gave.part q in let s = less q in omega (arith, n, s)) (λ class x. refl)
       (goes_on_locked p w.committed w.heap (scene_at (a.owners.openings b) (w.blocks b).team spot)
       (w.blocks b).team.shared.one.after gave.part leaves))))))
-    where
-      held : (x : Bool) → Kept p (act_tasks p w i f [] mode f.tasks) → Kept p (waits_unless x (act_tasks p w i f [] mode f.tasks))
-      held true h = h
-      held false h = tt

@@ -13,6 +13,7 @@ use Rattle.pv_picks.specs.Plain.Core.{Barrier, Formula, Parameter, Program, Shar
 use Rattle.pv_picks.specs.Formulas.Meeting.{AllMet, sum_of_each, unmet_shared}
 use Rattle.pv_picks.specs.Judge.States.{Resource, State, nothing_held}
 use Rattle.pv_picks.specs.Machine.Tasks.{AtLeave, Task, Stand}
+use Rattle.pv_picks.specs.Machine.Starts.{field_kind}
 use Rattle.pv_picks.specs.Machine.Frames.{Frame, goes_on, only_now, at_lengths_of, sight_of, contract_scene}
 use Rattle.pv_picks.specs.Judge.Rows.{exhale_each}
 use Rattle.pv_picks.specs.Judge.Settings.{Next}
@@ -47,7 +48,8 @@ use Rattle.account.specs.Owners.{Opened}
 use Rattle.account.specs.Blocks.{scene_at, HasArrived}
 use Rattle.account.specs.Accounts.{Account}
 use Rattle.account.specs.Scoped.{TasksSay}
-use Rattle.account_blocks.proofs.Sites.{StandsAt, site_scene, site_fits, at_lengths, place_at, at_a_leave, goes_behind}
+use Rattle.account.proofs.Ended.{past_fits}
+use Rattle.account_blocks.proofs.Sites.{StandsAt, site_scene, site_fits, place_at, at_a_leave, goes_behind}
 use Rattle.account_blocks.proofs.Messages.{nothing_fits}
 use Rattle.account_blocks.proofs.Members.{member, Opener, opener, Stood, stood, scenes_agree}
 use Rattle.account.proofs.Together.{each_formula, items_of, shared_none}
@@ -198,7 +200,7 @@ module _ (p : Program) (w : World) (a : Account p w) (sound : HeapFits p w.heap)
     past = at_lengths_of w.heap k.run.past;
     old = s.old;
     known = k.fits.old.known;
-    before = at_lengths p w.heap k.run.past k.fits.old.fits;
+    before = past_fits (field_kind p) w.heap k.run.past k.fits.old.fits;
     agrees = k.fits.old.agrees;
     lengths = λ array n e. e;
   }

@@ -1,5 +1,5 @@
 -- All members of a block leave a barrier in an accounted world, each with its part of what the barrier gives.
-use Rattle.std.proofs.Common.{◌≡◌, ℕ, suc, ◌+◌, ◌≤◌, ◌<◌, ℤ, pos, Bool, true, false, not, if◌then◌else◌, List, [], ◌∷◌, refl, ap, sym, subst, ◌∙◌, arith}
+use Rattle.std.proofs.Common.{◌≡◌, ℕ, suc, ◌+◌, ◌≤◌, ◌<◌, ℤ, pos, Bool, true, false, if◌then◌else◌, List, [], ◌∷◌, refl, ap, sym, subst, ◌∙◌, arith}
 use Rattle.std.specs.Prelude.{drop, ◌-ℤ◌, ◌+ℤ◌}
 use Rattle.pv_base.specs.declared.Name.{Name}
 use Rattle.pv_base.specs.declared.Span.{Span}
@@ -11,8 +11,8 @@ use Rattle.pv_picks.specs.Formulas.Meeting.{AllMet, sum_of_each, unmet_shared}
 use Rattle.pv_picks.specs.Judge.States.{Resource, OfLock}
 use Rattle.pv_picks.specs.Machine.Tasks.{AtLeave, AtClose, Task, Stand}
 use Rattle.pv_picks.specs.Machine.Frames.{Frame, goes_on, settled, only_now, sight_of, contract_scene}
-use Rattle.pv_picks.specs.Machine.Worlds.{MemberOf, Mode, World, Thread, OpenBlock, is_member, is_held_back, member_count, has_no_frame}
-use Rattle.pv_picks.specs.Machine.Steps.{Result, needs_met, waits_unless, as_member, act_leave, all_leave, all_behind, frames_leave, frames_behind, act, act_frames, act_tasks}
+use Rattle.pv_picks.specs.Machine.Worlds.{MemberOf, Mode, World, Thread, OpenBlock, is_member, member_count, has_no_frame}
+use Rattle.pv_picks.specs.Machine.Steps.{Result, needs_met, waits_unless, as_member, act_leave, all_leave, all_behind, frames_leave, frames_behind, act, act_tasks}
 use Rattle.pv_picks.specs.Formulas.Values.{within, width, or_zero}
 use Rattle.account_formulas.specs.Owning.{Amounts, Owns, KeepsOwning}
 use Rattle.account_formulas.specs.Growing.{HeapFits}
@@ -32,11 +32,12 @@ use Rattle.account.proofs.Working.{not_closing, not_leaving}
 use Rattle.account.proofs.Exchanging.{settled_exchanges}
 use Rattle.account.proofs.Sums.{part_of, sums_less}
 use Rattle.account.proofs.Moving.{first_same}
+use Rattle.account.proofs.Stepping.{by_run}
 use Rattle.account_blocks.proofs.Members.{Opener, opener, Stood, stood}
 use Rattle.account.specs.Objects.{AtBottom, RoleFits}
 use Rattle.account_blocks.proofs.Numbers.{shares_up, given_up, taken_up, none_up, is_member_at, number_of_member, number_from, its_number, parts_of_members, each_one, position_number}
 use Rattle.account.proofs.Bottom.{member_moves}
-use Rattle.account_blocks.proofs.Staying.{number_within}
+use Rattle.account.proofs.Numbers.{number_within}
 use Rattle.account.specs.Members.{LeavesAt}
 use Rattle.account_blocks.proofs.Leave.{Leaves, arrived, takes, met, dealt, parts, no_more}
 
@@ -450,16 +451,12 @@ pub leave_keeps : (p : Program) (w : World) (a : Account p w) → HeapFits p w.h
     → ((j : ℕ) → is_member (w.blocks b) j ≡ true → frames_leave barrier.place (w.threads j).frames ≡ true → LeavesAt w j barrier)
     → (mode : Mode) → Kept p (act p w mode i)
 leave_keeps p w a sound framed i inside f stack b spot role barrier span rest is each mode =
-    subst (λ fs. Kept p (act_frames p w mode i fs)) (sym stack) (held (not (is_held_back w i))
+    by_run p w a i inside f [] stack mode (λ r rs e fits.
     (subst (λ ts. Kept p (act_tasks p w i f [] mode ts)) (sym is)
     (subst (λ z. Kept p (as_member p w i f [] z [] check.BarrierEnsures span
     (λ block position. act_leave p w i f [] (w.blocks block) barrier))) (sym role)
     (by_test (all_leave w (w.blocks b) barrier.place) refl))))
   where
-    held : (x : Bool) → Kept p (act_tasks p w i f [] mode f.tasks) → Kept p (waits_unless x (act_tasks p w i f [] mode f.tasks))
-    held true h = h
-    held false h = tt
-
     by_test : (x : Bool) → all_leave w (w.blocks b) barrier.place ≡ x
         → Kept p (waits_unless x (needs_met (unmet_shared (sight_of w.heap f) (contract_scene f) (w.blocks b).team.variable
         (w.blocks b).low (w.blocks b).high barrier.shared.each_after) check.BarrierEnsures

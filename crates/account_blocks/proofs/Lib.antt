@@ -1,5 +1,4 @@
 pub mod Moving
-pub mod Turns
 pub mod Sites
 pub mod Messages
 pub mod Members

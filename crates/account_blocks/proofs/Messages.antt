@@ -32,7 +32,7 @@ use Rattle.account.specs.Running.{ran}
 use Rattle.account.specs.Scoped.{TasksSay}
 use Rattle.account.specs.Frames.{Run, amounts_of, home_in, standing_in, IsRunOf}
 use Rattle.account.proofs.Working.{frame_says}
-use Rattle.account_blocks.proofs.Turns.{never_turn}
+use Rattle.account.proofs.Choosing.{never_turn}
 use Rattle.account_blocks.proofs.Sites.{site_scene, place_at, same_scenes, site_fits, StandsAt, at_a_send, at_a_receive, goes_behind}
 
 -- a distance is no zero

@@ -8,6 +8,7 @@ use Rattle.pv_picks.specs.Formulas.Values.{within, width, or_zero}
 use Rattle.pv_picks.specs.Machine.Worlds.{OpenBlock, each_from, is_member, member_count}
 use Rattle.pv_picks.proofs.Sames.{front, back, naturals_same}
 use Rattle.account_formulas.proofs.Basics.{nat_self, at_most, is_at_most, both}
+use Rattle.account.proofs.Numbers.{is_below, below_of}
 use Rattle.account.specs.Owners.{sum_below}
 use Rattle.account.proofs.Sums.{sum_changed, sum_less, at_same, at_other}
 
@@ -75,12 +76,6 @@ given_up c (suc n) first f g d inside less gives =
         → (if x then f first else g j) + d j ≤ f j
     gives_at j true e a b = let same = naturals_same j first e in absurd (omega (arith, same, a))
     gives_at j false e a b = gives j (omega (arith, a)) (omega (arith, b))
-
-is_below : (m n : ℕ) → m < n → nat_lt m n ≡ true
-is_below m n h = search (rules)
-
-below_of : (m n : ℕ) → nat_lt m n ≡ true → m < n
-below_of m n h = search (rules)
 
 -- who is a member has a number
 pub is_member_at : (block : OpenBlock) (j : ℕ) → block.first ≤ j → j < block.first + member_count block → is_member block j ≡ true

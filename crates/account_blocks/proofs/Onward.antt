@@ -14,16 +14,16 @@ use Rattle.account_formulas.specs.Growing.{HeapFits}
 use Rattle.account_formulas.specs.Gaining.{PredicatesFit}
 use Rattle.account.specs.Scoped.{TasksSay}
 use Rattle.account.specs.Frames.{Run, amounts_of, all_of, standing_in, IsRunOf}
-use Rattle.account.specs.Owners.{Mail, sum_below, at_thread, lies_at}
+use Rattle.account.specs.Owners.{Mail, carried_by, sum_below, at_thread, lies_at}
 use Rattle.pv_picks.proofs.Sames.{naturals_same}
 use Rattle.account.specs.Messages.{TaskExchanges, TasksExchange, bottom_tasks, IsKnown, ReceivesNone, Lies}
 use Rattle.account.specs.Accounts.{Account}
-use Rattle.account.proofs.Sums.{sum_changed, at_same, at_other}
+use Rattle.account.proofs.Sums.{sum_less, sum_changed, at_same, at_other}
 use Rattle.account.specs.Going.{Goes}
 use Rattle.account.proofs.LocalWork.{settled_goes}
-use Rattle.account.proofs.Moving as moved
+use Rattle.account.proofs.Moving as account_moving
 use Rattle.account.proofs.Moving.{GoesOn, first_goes_on, settles, settled_leaves_not, leaves_nothing, others_here}
-use Rattle.account_blocks.proofs.Moving.{after, Moves}
+use Rattle.account_blocks.proofs.Moving.{after, Moves, moved}
 
 -- one part of a sum gives to another one
 pub gives_to : (f g : ℕ → ℕ) (n i k a : ℕ) → i < n → k < n → nat_eq i k ≡ false → nat_eq k i ≡ false → g i + a ≤ f i
@@ -75,7 +75,7 @@ module _ (p : Program) (w : World) (a : Account p w) (sound : HeapFits p w.heap)
     -- who still receives a message did so before
     pub still_receives : (j : ℕ) (label : Name) → (ReceivesNone label ((with_frames w i (behind ∷ [])).threads j).frames → ⊥)
         → ReceivesNone label (w.threads j).frames → ⊥
-    still_receives = moved.still_receives p w.committed w.heap w.heap w.count w.threads a.owners i
+    still_receives = account_moving.still_receives p w.committed w.heap w.heap w.count w.threads a.owners i
         (others_here w.heap w.count a.owners i) (behind ∷ []) (done.run ∷ []) goes
 
     -- the step, with what others left and the mail as it is then
@@ -104,3 +104,19 @@ module _ (p : Program) (w : World) (a : Account p w) (sound : HeapFits p w.heap)
           (settled_leaves_not p w.committed w.heap (goes_on f rest) s done);
       there = there;
     }
+
+    -- where what others left and the mail stay, and this thread has no more, the world after the step is accounted for
+    pub went_alone : ((q : Resource) → amounts_of s q ≤ amounts_of r q) → Account p (with_frames w i (behind ∷ []))
+    went_alone less = moved p w a i (behind ∷ []) (done.run ∷ []) a.owners.left a.owners.mail inside
+        (went a.owners.left a.owners.mail (λ q. sum_less _ _ w.count (λ j. less_at j q (nat_eq j i) refl))
+        (λ class x. less (OfLock class x)) a.locks.threads (λ j e. refl)
+        (λ j l c position is' label some was. a.mail.there j l c position is' label (still_receives j label some) was))
+      where
+        less_at : (j : ℕ) (q : Resource) (x : Bool) → nat_eq j i ≡ x
+            → all_of (if x then done.run ∷ [] else a.owners.runs j) q + (a.owners.left j q + carried_by (a.owners.mail j) q)
+            ≤ all_of (a.owners.runs j) q + (a.owners.left j q + carried_by (a.owners.mail j) q)
+        less_at j q false e = omega arith
+        less_at j q true e =
+            let runs = ap (λ z. all_of (a.owners.runs z) q) (naturals_same j i e) in
+            let mine = ap (λ z. all_of z q) has_runs in
+            let d = done.less q in let l = less q in omega (arith, runs, mine, d, l)

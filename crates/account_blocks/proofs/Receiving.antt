@@ -1,5 +1,5 @@
 -- A member that stands at a receive in an accounted world: it waits, or goes on with what was sent.
-use Rattle.std.proofs.Common.{◌≡◌, ℕ, ◌+◌, ◌≤◌, ◌<◌, ℤ, pos, Bool, true, false, not, if◌then◌else◌, Some, List, [], ◌∷◌, refl, ap, sym, subst, ◌∙◌, arith}
+use Rattle.std.proofs.Common.{◌≡◌, ℕ, ◌+◌, ◌≤◌, ◌<◌, ℤ, pos, Bool, true, false, if◌then◌else◌, Some, List, [], ◌∷◌, refl, ap, sym, subst, ◌∙◌, arith}
 use Rattle.std.specs.Prelude.{nat_eq, int_le, ◌-ℤ◌}
 use Rattle.std.proofs.lemmas.Option.{none-some}
 use Rattle.pv_base.specs.declared.Name.{Name}
@@ -15,8 +15,8 @@ use Rattle.pv_picks.specs.Formulas.Meeting.{at}
 use Rattle.pv_picks.specs.Judge.States.{Resource, OfLock}
 use Rattle.pv_picks.specs.Machine.Tasks.{AtReceive, Task, Stand}
 use Rattle.pv_picks.specs.Machine.Frames.{Frame, goes_on, settled, only_now}
-use Rattle.pv_picks.specs.Machine.Worlds.{MemberOf, Mode, World, is_held_back, with_frames}
-use Rattle.pv_picks.specs.Machine.Steps.{Result, partner_if, sender_of, needs, waits_unless, as_member, act_receive, act, act_frames, act_tasks}
+use Rattle.pv_picks.specs.Machine.Worlds.{MemberOf, Mode, World, with_frames}
+use Rattle.pv_picks.specs.Machine.Steps.{Result, partner_if, sender_of, needs, waits_unless, as_member, act_receive, act, act_tasks}
 use Rattle.pv_picks.specs.Typing.Expressions.{silent, type_in}
 use Rattle.pv_picks.specs.Formulas.Values.{number_in}
 use Rattle.core_trees.specs.Formulas.{MessageFits}
@@ -39,12 +39,13 @@ use Rattle.account.specs.Scoped.{TasksSay}
 use Rattle.account.specs.Going.{Goes}
 use Rattle.account.proofs.Exchanging.{settled_exchanges}
 use Rattle.account.proofs.Sums.{sum_less}
+use Rattle.account.proofs.Stepping.{by_run}
 use Rattle.account_blocks.proofs.Moving.{moved}
 use Rattle.account_blocks.proofs.Sites.{site_scene, site_fits, at_own, at_a_receive}
 use Rattle.account_blocks.proofs.Messages.{is_some_distance, Received, receives, receives_none}
 use Rattle.account_blocks.proofs.Members.{Stood, stood, here, scenes_agree, part_of_all}
 use Rattle.account_blocks.proofs.Letters.{fewer, taken_out, others_stay}
-use Rattle.account_blocks.proofs.Onward.{still_receives, step_known, done, went}
+use Rattle.account_blocks.proofs.Onward.{still_receives, step_known, done, went, went_alone}
 
 module _ (p : Program) (w : World) (a : Account p w) (sound : HeapFits p w.heap) (framed : PredicatesFit p w.heap) (i : ℕ)
     (inside : i < w.count) (f : Frame) (stack : (w.threads i).frames ≡ f ∷ []) (b : ℕ) (spot : ℤ)
@@ -232,31 +233,12 @@ module _ (p : Program) (w : World) (a : Account p w) (sound : HeapFits p w.heap)
     no_more : (q : Resource) → amounts_of (record k.run { inner = false }) q ≤ whole
     no_more q = let n = part_of_all p w a i inside f stack b spot role q in omega (arith, n)
 
-    abbrev after : Goes p w.committed w.heap behind (record k.run { inner = false })
-    after = done p w a sound framed i inside f stack b spot role k.run k.has_runs (AtReceive m span) rest is (λ c e. cc e)
-        (record k.run { inner = false }) alone says refl no_more
-
     nobody : Account p (with_frames w i (behind ∷ []))
-    nobody = moved p w a i (behind ∷ []) (after.run ∷ []) a.owners.left a.owners.mail inside
-        (went p w a sound framed i inside f stack b spot role k.run k.has_runs (AtReceive m span) rest is (λ c e. cc e)
-        (record k.run { inner = false }) alone says refl no_more a.owners.left a.owners.mail
-        (λ q. sum_less _ _ w.count (λ j. less_at j q (nat_eq j i) refl)) (λ class x. omega arith) a.locks.threads
-        (λ j e. refl) (λ j l c position is' label some was. a.mail.there j l c position is' label
-        (still_receives p w a sound framed i inside f stack b spot role k.run k.has_runs (AtReceive m span) rest is
-        (λ c e. cc e) (record k.run { inner = false }) alone says refl no_more j label some) was))
-      where
-        less_at : (j : ℕ) (q : Resource) (x : Bool) → nat_eq j i ≡ x
-            → all_of (if x then after.run ∷ [] else a.owners.runs j) q
-            + (a.owners.left j q + carried_by (a.owners.mail j) q)
-            ≤ all_of (a.owners.runs j) q + (a.owners.left j q + carried_by (a.owners.mail j) q)
-        less_at j q false e = omega arith
-        less_at j q true e =
-            let runs = ap (λ z. all_of (a.owners.runs z) q) (naturals_same j i e) in
-            let mine = ap (λ z. all_of z q) k.has_runs in
-            let d = after.less q in omega (arith, runs, mine, d)
+    nobody = went_alone p w a sound framed i inside f stack b spot role k.run k.has_runs (AtReceive m span) rest is (λ c e. cc e)
+        (record k.run { inner = false }) alone says refl no_more (λ q. omega arith)
 
   pub receive_keeps : (mode : Mode) → Kept p (act p w mode i)
-  receive_keeps mode = subst (λ fs. Kept p (act_frames p w mode i fs)) (sym stack) (held (not (is_held_back w i))
+  receive_keeps mode = by_run p w a i inside f [] stack mode (λ r rs e fits.
       (subst (λ ts. Kept p (act_tasks p w i f [] mode ts)) (sym is)
       (subst (λ t. Kept p (needs t check.Send span (as_member p w i f [] (w.threads i).role [] check.Send span
       (λ block position. act_receive p w i f [] (sender_of (w.blocks block) position m) block (position -ℤ pos m.distance) m
@@ -267,10 +249,6 @@ module _ (p : Program) (w : World) (a : Account p w) (sound : HeapFits p w.heap)
       rest)))
       (sym role) (by_test (int_le (w.blocks b).low sender) refl)))))
     where
-      held : (x : Bool) → Kept p (act_tasks p w i f [] mode f.tasks) → Kept p (waits_unless x (act_tasks p w i f [] mode f.tasks))
-      held true h = h
-      held false h = tt
-
       by_sent : int_le (w.blocks b).low sender ≡ true → (y : Bool) → (w.blocks b).sent m.label sender ≡ y
           → Kept p (waits_unless y (Result.Went (with_frames w i (behind ∷ []))))
       by_sent e true s = got_letter e s

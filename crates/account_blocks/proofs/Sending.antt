@@ -1,5 +1,5 @@
 -- A member that stands at a send in an accounted world: what the formula asks for goes to the receiver.
-use Rattle.std.proofs.Common.{◌≡◌, ℕ, ◌+◌, ◌≤◌, ◌<◌, ℤ, pos, Bool, true, false, not, if◌then◌else◌, Some, List, [], ◌∷◌, refl, ap, sym, subst, ◌∙◌, arith}
+use Rattle.std.proofs.Common.{◌≡◌, ℕ, ◌+◌, ◌≤◌, ◌<◌, ℤ, pos, Bool, true, false, if◌then◌else◌, Some, List, [], ◌∷◌, refl, ap, sym, subst, ◌∙◌, arith}
 use Rattle.std.specs.Prelude.{nat_eq, int_lt, ◌-ℤ◌, ◌+ℤ◌, negsuc}
 use Rattle.std.proofs.lemmas.Int.{ints}
 use Rattle.pv_base.specs.declared.Name.{Name}
@@ -12,8 +12,8 @@ use Rattle.pv_picks.specs.Formulas.Heaps.{at_number}
 use Rattle.pv_picks.specs.Judge.States.{Resource, OfLock}
 use Rattle.pv_picks.specs.Machine.Tasks.{AtSend, Task, Stand}
 use Rattle.pv_picks.specs.Machine.Frames.{Frame, goes_on, settled, only_now}
-use Rattle.pv_picks.specs.Machine.Worlds.{MemberOf, Mode, World, is_held_back, with_frames, with_message, member_count, has_no_frame}
-use Rattle.pv_picks.specs.Machine.Steps.{Result, partner_if, receiver_of, needs, needs_met, waits_unless, as_member, act_send, act, act_frames, act_tasks}
+use Rattle.pv_picks.specs.Machine.Worlds.{MemberOf, Mode, World, with_frames, with_message, member_count, has_no_frame}
+use Rattle.pv_picks.specs.Machine.Steps.{Result, partner_if, receiver_of, needs, needs_met, as_member, act_send, act, act_tasks}
 use Rattle.pv_picks.specs.Typing.Expressions.{silent}
 use Rattle.pv_picks.specs.Formulas.Values.{number_in, width, or_zero}
 use Rattle.core_trees.specs.Formulas.{MessageFits}
@@ -33,13 +33,14 @@ use Rattle.account.specs.Accounts.{Account, Kept}
 use Rattle.account.specs.Scoped.{TasksSay}
 use Rattle.account.specs.Going.{Goes}
 use Rattle.account.proofs.Sums.{sum_less, at_same, at_other}
+use Rattle.account.proofs.Stepping.{by_run}
 use Rattle.account_blocks.proofs.Moving.{Moves, moved}
 use Rattle.account_blocks.proofs.Sites.{site_scene, at_a_send}
 use Rattle.account_blocks.proofs.Messages.{is_some_distance, Sent, sends, sends_none}
 use Rattle.account_blocks.proofs.Members.{member, Opener, opener, Stood, stood, here, scenes_agree, part_of_all}
 use Rattle.account.proofs.Locks.{locks_less, goes_on_locked}
 use Rattle.account_blocks.proofs.Recorded.{recorded}
-use Rattle.account_blocks.proofs.Onward.{gives_to, still_receives, step_known, done, went}
+use Rattle.account_blocks.proofs.Onward.{gives_to, still_receives, step_known, done, went, went_alone}
 
 -- a number of a position below the end of a range is one of its numbers
 in_block : (low high : ℤ) (n : ℕ) → int_lt (low +ℤ pos n) high ≡ true → n < width low high
@@ -283,31 +284,12 @@ module _ (p : Program) (w : World) (a : Account p w) (sound : HeapFits p w.heap)
     no_more : (q : Resource) → amounts_of (record k.run { inner = false }) q ≤ whole
     no_more q = let n = part_of_all p w a i inside f stack b spot role q in omega (arith, n)
 
-    abbrev after : Goes p w.committed w.heap behind (record k.run { inner = false })
-    after = done p w a sound framed i inside f stack b spot role k.run k.has_runs (AtSend m span) rest is (λ c e. cc e)
-        (record k.run { inner = false }) alone says refl no_more
-
     nobody : Account p (with_frames w i (behind ∷ []))
-    nobody = moved p w a i (behind ∷ []) (after.run ∷ []) a.owners.left a.owners.mail inside
-        (went p w a sound framed i inside f stack b spot role k.run k.has_runs (AtSend m span) rest is (λ c e. cc e)
-        (record k.run { inner = false }) alone says refl no_more a.owners.left a.owners.mail
-        (λ q. sum_less _ _ w.count (λ j. less_at j q (nat_eq j i) refl)) (λ class x. omega arith) a.locks.threads
-        (λ j e. refl) (λ j l c position is' label some was. a.mail.there j l c position is' label
-        (still_receives p w a sound framed i inside f stack b spot role k.run k.has_runs (AtSend m span) rest is
-        (λ c e. cc e) (record k.run { inner = false }) alone says refl no_more j label some) was))
-      where
-        less_at : (j : ℕ) (q : Resource) (x : Bool) → nat_eq j i ≡ x
-            → all_of (if x then after.run ∷ [] else a.owners.runs j) q
-            + (a.owners.left j q + carried_by (a.owners.mail j) q)
-            ≤ all_of (a.owners.runs j) q + (a.owners.left j q + carried_by (a.owners.mail j) q)
-        less_at j q false e = omega arith
-        less_at j q true e =
-            let runs = ap (λ z. all_of (a.owners.runs z) q) (naturals_same j i e) in
-            let mine = ap (λ z. all_of z q) k.has_runs in
-            let d = after.less q in omega (arith, runs, mine, d)
+    nobody = went_alone p w a sound framed i inside f stack b spot role k.run k.has_runs (AtSend m span) rest is (λ c e. cc e)
+        (record k.run { inner = false }) alone says refl no_more (λ q. omega arith)
 
   pub send_keeps : (mode : Mode) → Kept p (act p w mode i)
-  send_keeps mode = subst (λ fs. Kept p (act_frames p w mode i fs)) (sym stack) (held (not (is_held_back w i))
+  send_keeps mode = by_run p w a i inside f [] stack mode (λ r rs e fits.
       (subst (λ ts. Kept p (act_tasks p w i f [] mode ts)) (sym is)
       (subst (λ t. Kept p (needs t check.Send span (as_member p w i f [] (w.threads i).role [] check.Send span
       (λ block position. act_send p w i f [] (receiver_of (w.blocks block) position m) block position m rest))))
@@ -316,10 +298,6 @@ module _ (p : Program) (w : World) (a : Account p w) (sound : HeapFits p w.heap)
       (λ block position. act_send p w i f [] (receiver_of (w.blocks block) position m) block position m rest)))
       (sym role) (by_test (int_lt (spot +ℤ pos m.distance) (w.blocks b).high) refl)))))
     where
-      held : (x : Bool) → Kept p (act_tasks p w i f [] mode f.tasks) → Kept p (waits_unless x (act_tasks p w i f [] mode f.tasks))
-      held true h = h
-      held false h = tt
-
       by_test : (x : Bool) → int_lt (spot +ℤ pos m.distance) (w.blocks b).high ≡ x
           → Kept p (act_send p w i f [] (partner_if x) b spot m rest)
       by_test true e = subst (λ o. Kept p (needs_met o check.Send

@@ -21,12 +21,13 @@ use Rattle.pv_picks.specs.Typing.Expressions.{Home, Speech, silent, type_in}
 use Rattle.pv_picks.specs.Typing.Tasks.{at_send, at_receive, at_arrive}
 use Rattle.pv_picks.specs.Typing.Frames.{HasType}
 use Rattle.core_trees.specs.Formulas.{BarrierFits, MessageFits}
-use Rattle.account_formulas.specs.Sights.{ValuesFit, SceneFits}
+use Rattle.account_formulas.specs.Sights.{SceneFits}
 use Rattle.account_formulas.specs.Runs.{Taken, truly, RestNeverFails, AreSettled, GoesOnTo}
 use Rattle.account_formulas.specs.Owning.{Amounts, HasTrees}
 use Rattle.account_formulas.specs.Growing.{StateFits, Place}
 use Rattle.account_formulas.proofs.Raising.{settled_on}
 use Rattle.account_formulas.specs.Agreeing.{ScenesAgree}
+use Rattle.account.proofs.Ended.{past_fits}
 use Rattle.account.specs.Running.{goes_inside, ran_step, ran}
 use Rattle.account.specs.Scoped.{StepSpeaks, TasksSay, FrameSays, stands}
 use Rattle.account.specs.Frames.{Run, home_in, standing_in, opened, AllTakeTurns, IsRunOf}
@@ -34,19 +35,6 @@ use Rattle.account.specs.Frames.{Run, home_in, standing_in, opened, AllTakeTurns
 -- the scene of which the contract of a body speaks, in a state
 abbrev pub site_scene : Site → State → Scene
 site_scene site s = record { this = s.this; variables = site.begun; result = s.result }
-
--- values that fit do so with the present lengths
-pub at_lengths : (p : Program) (present past : Heap) → ValuesFit (field_kind p) present past
-    → ValuesFit (field_kind p) present (at_lengths_of present past)
-at_lengths p present past fits = record {
-  fields = fits.fields;
-  numbers = fits.numbers;
-  truths = fits.truths;
-  no_fields = fits.no_fields;
-  no_elements = fits.no_elements;
-  beyond_fields = fits.beyond_fields;
-  beyond_elements = fits.beyond_elements;
-}
 
 -- a scene fits with another number for a variable of whole numbers
 pub at_own : (h : Home) (speech : Speech) (xs : List Parameter) (heap : Heap) (scene : Scene) (name : Name) (i : ℤ)
@@ -75,7 +63,7 @@ module _ (p : Program) (flags : ℕ → Bool) (heap : Heap) where
     past = at_lengths_of heap r.past;
     old = r.state.old;
     known = fits.old.known;
-    before = at_lengths p heap r.past fits.old.fits;
+    before = past_fits (field_kind p) heap r.past fits.old.fits;
     agrees = fits.old.agrees;
     lengths = λ array n is. is;
   }

@@ -1,10 +1,7 @@
 -- What is owned stays owned, where the formula can be taken in by a run that goes on with nothing held. And positions of a range.
-use Rattle.std.proofs.Common.{◌≡◌, ℕ, ℤ, pos, Bool, true, ◌≤◌, ◌<◌, Some, [], refl, sym, subst, arith}
-use Rattle.std.specs.Prelude.{negsuc, int_le, int_lt, ◌+ℤ◌, ◌-ℤ◌}
-use Rattle.std.proofs.lemmas.Int.{ints}
+use Rattle.std.proofs.Common.{◌≡◌, ℕ, ℤ, Bool, ◌≤◌, Some, [], sym, subst, arith}
 use Rattle.pv_fraction.specs.Amounts.{whole}
 use Rattle.pv_picks.specs.Plain.Core.{Formula, Program}
-use Rattle.pv_picks.specs.Formulas.Values.{within, width, or_zero}
 use Rattle.pv_picks.specs.Formulas.Evaluation.{Scene}
 use Rattle.pv_picks.specs.Formulas.Heaps.{Heap}
 use Rattle.pv_picks.specs.Formulas.Meeting.{Sight}
@@ -18,7 +15,6 @@ use Rattle.account_formulas.specs.Good.{IsGood}
 use Rattle.account_formulas.specs.Owning.{Amounts, Owns, KeepsHeld, HasTrees}
 use Rattle.account_formulas.specs.Growing.{StateFits, Place, HeapFits}
 use Rattle.account_formulas.specs.Gaining.{Gained, PredicatesFit, home_at, sight_at}
-use Rattle.account_formulas.proofs.Basics.{both, not_false}
 use Rattle.account_formulas.proofs.Raising.{contents_fine}
 use Rattle.account_formulas.proofs.Gaining.{amount_seen, formula_gains}
 
@@ -52,12 +48,3 @@ stays_on p flags present sound framed c scene fits f good R owns most taken t se
     g = formula_gains p flags present sound framed c scene fits f good R owns taken t settled fine (λ q. 0)
         (subst (λ I. HasTrees p flags present I (λ q. 0)) (sym none) tt)
         (λ q. let m = most q in let e = empty q in omega (arith, m, e)) next never
-
--- each number of a range's width is one of its positions
-pub number_within : (low high : ℤ) (n : ℕ) → n < width low high → within low high (low +ℤ pos n) ≡ true
-number_within low high n l = both _ _ (not_false (int_le low (low +ℤ pos n)) (λ z. omega (arith, ints)))
-    (go (high -ℤ low) refl l)
-  where
-    go : (d : ℤ) → high -ℤ low ≡ d → n < or_zero d → int_lt (low +ℤ pos n) high ≡ true
-    go (pos d) e k = not_false (int_lt (low +ℤ pos n) high) (λ z. omega (arith, ints, e, k))
-    go (negsuc d) e k = absurd (omega (arith, k))

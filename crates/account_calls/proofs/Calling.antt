@@ -28,6 +28,7 @@ use Rattle.pv_picks.specs.Typing.Tasks.{at_call}
 use Rattle.pv_picks.specs.Typing.Frames.{HasType, ValuesFit}
 use Rattle.machine_laws.proofs.Local.{past-fits}
 use Rattle.core_trees.specs.Formulas.{MethodSays, in_class}
+use Rattle.account_formulas.specs.Sights.{ContentsAgree}
 use Rattle.account_formulas.specs.Runs.{truly, RestNeverFails, contents_of}
 use Rattle.account_formulas.specs.Good.{IsGood}
 use Rattle.account_formulas.specs.Owning.{Owns}
@@ -48,13 +49,12 @@ use Rattle.account.specs.Owners.{nothing}
 use Rattle.account.specs.Objects.{AtBottom}
 use Rattle.account.specs.Messages.{TasksExchange, bottom_tasks}
 use Rattle.account.specs.Accounts.{Account, Kept}
-use Rattle.account.proofs.Sums.{runs_in_total}
-use Rattle.account.proofs.Stepping.{is_not_null, by_run, never_at, says_at}
+use Rattle.account.proofs.Stepping.{is_not_null, own_most, by_run, never_at, says_at}
 use Rattle.account.proofs.Typing.{arguments_typed, object_typed}
 use Rattle.account.proofs.Working.{SaysOn}
 use Rattle.account.proofs.Later.{grown_same, keeps_same}
-use Rattle.account_calls.specs.Beginnings.{call_of}
-use Rattle.account_calls.proofs.Beginning.{before_place, Begins, begins}
+use Rattle.account.specs.Going.{first_frame, Begins}
+use Rattle.account.proofs.Beginning.{before_place, begins}
 use Rattle.account.proofs.Bottom.{bottom_exchanges, stays_at_bottom}
 use Rattle.account.proofs.Moving.{first_same, closes_not, leaves_not, leaves_nothing}
 use Rattle.account.proofs.Onward.{nothing_new, Moves, accounted}
@@ -131,9 +131,9 @@ module _ (p : Program) (flags : ℕ → Bool) (heap : Heap) (sound : HeapFits p 
           m.contract.before (good_formula (in_class p class) silent (over [] m.parameters) m.contract.before says.3)
           r.taken r.state (λ picks q. refl) fits.state.fits r.trees fits.state.trees check.Requires (Some span) _ rests
 
-      began : Begins p flags heap sound framed class m (object_under count f.values) (topmost count f.values) gave.part
-      began = begins p flags heap sound framed class m says body never (object_under count f.values) (topmost count f.values) full
-          typed all gave.part (λ q. let g = gave.sum q in let s = most q in omega (arith, g, s)) gave.owns
+      began : Begins p flags heap class m (object_under count f.values) (topmost count f.values) gave.part
+      began = begins p flags heap sound framed class m says body good never (object_under count f.values) (topmost count f.values)
+          full typed all gave.part (λ q. let g = gave.sum q in let s = most q in omega (arith, g, s)) gave.owns
 
       caller : account.Run
       caller = record r {
@@ -143,7 +143,8 @@ module _ (p : Program) (flags : ℕ → Bool) (heap : Heap) (sound : HeapFits p 
         stack = stack;
       }
 
-      waits : WaitsFor p flags heap (call_of heap class m (object_under count f.values) (topmost count f.values) began.body)
+      waits : WaitsFor p flags heap (called_of (first_frame heap class m (object_under count f.values) (topmost count f.values))
+          began.run)
           (waiting_frame f class m count rest)
           (record r {
             state = with_left r.state gave.held gave.instances gave.lengths;
@@ -156,7 +157,7 @@ module _ (p : Program) (flags : ℕ → Bool) (heap : Heap) (sound : HeapFits p 
         rest = rest;
         is = refl;
         begun = refl;
-        called = began.is_body;
+        called = began.body;
         state = record {
           fits =
               left_fits flags heap r.taken r.state gave.held gave.instances gave.lengths fits.state.fits gave.leaves gave.agree;
@@ -178,7 +179,8 @@ module _ (p : Program) (flags : ℕ → Bool) (heap : Heap) (sound : HeapFits p 
         waiting = cells_of r.state;
         known = contents_of r.taken (cells_of r.state);
         settled = settled_of flags heap r.taken r.state fits.state.fits;
-        stood = contents_fine flags heap r.taken r.state fits.state.fits;
+        stood = subst (λ past. ContentsAgree past (contents_of r.taken (cells_of r.state))) (sym began.past)
+            (contents_fine flags heap r.taken r.state fits.state.fits);
         never = gave.never;
       }
 
@@ -253,8 +255,7 @@ module _ (p : Program) (verified : IsVerifiedThroughout p) (w : World) (sound : 
     where
       most : (q : Resource) → amounts_of r q ≤ whole
       most q =
-          let one = runs_in_total a.owners w.count (suc w.heap.count) q i inside in let two = a.sums.most q in
-          let same = ap (λ x. all_of x q) has in omega (arith, one, two, same)
+          let one = own_most p w a i inside (r ∷ rs) has q in omega (arith, one)
 
       turns : AllTakeTurns p w.committed w.heap f.class r.body r.past (body_scene f) (opened false rest) r.outer
       turns = subst (λ ts. AllTakeTurns p w.committed w.heap f.class r.body r.past (body_scene f) (opened r.inner ts) r.outer) is
@@ -299,6 +300,4 @@ module _ (p : Program) (verified : IsVerifiedThroughout p) (w : World) (sound : 
 
   pub call_keeps : (mode : Mode) → Kept p (act p w mode i)
   call_keeps mode = by_run p w a i inside f below stands_at mode (λ r rs has fits.
-      subst (λ ts. Kept p (act_tasks p w i f below mode ts)) (sym is) (call_by mode r rs has
-      (subst (λ z. AreRunsOf p w.committed w.heap (f ∷ below) z) has
-      (subst (λ z. AreRunsOf p w.committed w.heap z (a.owners.runs i)) stands_at (a.threads.frames i inside)))))
+      subst (λ ts. Kept p (act_tasks p w i f below mode ts)) (sym is) (call_by mode r rs has fits))

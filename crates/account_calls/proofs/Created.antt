@@ -225,6 +225,4 @@ module _ (p : Program) (verified : IsVerifiedThroughout p) (w : World) (sound : 
 
   pub object_keeps : (mode : Mode) → Kept p (act p w mode i)
   object_keeps mode = by_run p w a i inside f below stands_at mode (λ r rs has fits.
-      subst (λ ts. Kept p (act_tasks p w i f below mode ts)) (sym is) (object_by mode r rs has
-      (subst (λ z. AreRunsOf p w.committed w.heap (f ∷ below) z) has
-      (subst (λ z. AreRunsOf p w.committed w.heap z (a.owners.runs i)) stands_at (a.threads.frames i inside)))))
+      subst (λ ts. Kept p (act_tasks p w i f below mode ts)) (sym is) (object_by mode r rs has fits))

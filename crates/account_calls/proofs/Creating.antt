@@ -1,5 +1,5 @@
 -- The label of a new object: the thread that makes it owns its fields and its tokens.
-use Rattle.std.proofs.Common.{◌≡◌, ◌+◌, ◌≤◌, ◌<◌, ℕ, zero, suc, pos, Bool, true, false, ◌&&◌, ◌||◌, if◌then◌else◌, Option, Some, None, List, [], ◌∷◌, refl, ap, sym, subst, ◌∙◌, arith}
+use Rattle.std.proofs.Common.{◌≡◌, ◌+◌, ◌≤◌, ◌<◌, ℕ, zero, suc, pos, Bool, true, false, ◌&&◌, ◌||◌, if◌then◌else◌, Option, Some, List, [], ◌∷◌, refl, ap, sym, subst, ◌∙◌, arith}
 use Rattle.std.specs.Prelude.{nat_eq, map, is_some, IsSome}
 use Rattle.std.specs.List.{AllByRecursion, list_any}
 use Rattle.std.proofs.lemmas.Bool.Decides.{nat_tests}
@@ -18,10 +18,10 @@ use Rattle.pv_values.specs.Typing.{Kind}
 use Rattle.pv_fraction.specs.Amounts.{whole}
 use Rattle.pv_picks.specs.Plain.Core.{Parameter, Program}
 use Rattle.pv_picks.specs.Plain.Members.{fields_of, run_of, invariant_of}
-use Rattle.pv_picks.specs.Formulas.Values.{array_of, default_of}
+use Rattle.pv_picks.specs.Formulas.Values.{default_of}
 use Rattle.pv_picks.specs.Formulas.Heaps.{Heap, with_object}
 use Rattle.pv_picks.specs.Machine.Labels.{Label}
-use Rattle.pv_picks.specs.Machine.Starts.{field_kind, kind_of}
+use Rattle.pv_picks.specs.Machine.Starts.{field_kind}
 use Rattle.pv_picks.specs.Judge.Runs.{Judged, Maps, content}
 use Rattle.pv_picks.specs.Judge.States.{State, Resource, InField, InElement, OfToken, OfLock, Holding, amount_held, amount_of, holding, plain_cell, same_resource, scene_of, with_cell, with_met}
 use Rattle.pv_picks.specs.Judge.Settings.{Next, met_as}
@@ -34,7 +34,6 @@ use Rattle.machine_laws.proofs.Typed.{after-keeps, step_typed}
 use Rattle.pv_picks.proofs.Sames.{front, back, naturals_same, names_same, resources_same}
 use Rattle.account_formulas.specs.Runs.{Taken, truly, RestNeverFails, all_maps}
 use Rattle.account_formulas.specs.Growing.{IsHeld, StateFits, HeapFits}
-use Rattle.account_formulas.specs.Sights.{Stands}
 use Rattle.account_formulas.specs.Owning.{Amounts, IsPlaced, KeepsHeld}
 use Rattle.account_formulas.proofs.Basics.{nat_self, same_self, only_self}
 use Rattle.account_formulas.proofs.Exhaling.{holding_is}
@@ -42,8 +41,8 @@ use Rattle.account_formulas.proofs.Lengths.{never_number}
 use Rattle.account_formulas.proofs.Raising.{GainedOne, add_goes, placed_of}
 use Rattle.account.proofs.Supplying.{heap_fits}
 use Rattle.account.proofs.Working.{alike_never}
-use Rattle.account.proofs.Later.{Grown, held_later}
-use Rattle.account_calls.proofs.Making.{below_more, fresh_is}
+use Rattle.account.proofs.Later.{Extends, grown_extended, keeps_extended, below_more, Grown, held_later}
+use Rattle.account_calls.proofs.Making.{fresh_is}
 
 -- The fields of a new object
 
@@ -128,24 +127,17 @@ module _ (p : Program) (flags : ℕ → Bool) (heap : Heap) (sound : HeapFits p 
       go true e = absurd (none-some c (sym (sound.beyond o (is_new o e)).class ∙ is))
       go false e = is
 
-  some_later : (l : Location) → IsSome (heap.value l) → IsSome (more.value l)
-  some_later l is = go (heap.value l) refl is
-    where
-      go : (o : Option Value) → heap.value l ≡ o → IsSome o → IsSome (more.value l)
-      go None e k = absurd (cc k)
-      go (Some v) e k = subst IsSome (sym (value_later l v e)) refl
-
   kinds_later : (kind : Option Kind) (v : Value) → HasKindOf heap kind v → HasKindOf more kind v
   kinds_later kind v h = after-keeps p (Some (Label.NewObject class)) heap typed tt tt kind v h
 
-  pub grown_created : Grown heap (with_object heap class (first_fields p class))
-  grown_created = record {
-    keeps = kinds_later;
-    numbers = λ a h i v is. h i v is;
-    truths = λ a h i v is. h i v is;
-    count = omega arith;
-    class = λ x c is l. before x c is l (nat_eq (suc x) (suc heap.count)) refl;
+  extends : Extends heap (with_object heap class (first_fields p class))
+  extends = record {
+    values = value_later;
+    lengths = λ a n is. is;
     classes = class_later;
+    class = λ x c is l. before x c is l (nat_eq (suc x) (suc heap.count)) refl;
+    kinds = kinds_later;
+    count = omega arith;
   }
     where
       before : (x : ℕ) (c : Name) → more.class (suc x) ≡ Some c → suc x ≤ heap.count → (b : Bool)
@@ -153,20 +145,11 @@ module _ (p : Program) (flags : ℕ → Bool) (heap : Heap) (sound : HeapFits p 
       before x c is l true e = let n = is_new (suc x) e in absurd (omega (arith, n, l))
       before x c is l false e = sym (ap (λ b. if b then Some class else heap.class (suc x)) e) ∙ is
 
-  pub keeps_created : (A : Amounts) → KeepsHeld A heap (with_object heap class (first_fields p class))
-  keeps_created A = record { placed = placed; kept = kept; lengths = λ a n is. is }
-    where
-      placed : (r : Resource) → IsPlaced heap r → IsPlaced more r
-      placed (InField c o n) h = (class_later o c h.0, some_later (location.Field o n) h.1)
-      placed (InElement t a i) h = (h.0, h.1, h.2, kinds_later (Some (kind_of (array_of t))) (value.Reference a) h.3)
-      placed (OfToken t c o) h = class_later o c h
-      placed (OfLock c o) h = class_later o c h
+  pub grown_created : Grown heap (with_object heap class (first_fields p class))
+  grown_created = grown_extended heap (with_object heap class (first_fields p class)) extends
 
-      kept : (r : Resource) (v : Value) → 1 ≤ A r → Stands heap r v → Stands more r v
-      kept (InField c o n) v m is = value_later (location.Field o n) v is
-      kept (InElement t a i) v m is = is
-      kept (OfToken t c o) v m is = tt
-      kept (OfLock c o) v m is = tt
+  pub keeps_created : (A : Amounts) → KeepsHeld A heap (with_object heap class (first_fields p class))
+  keeps_created = keeps_extended heap (with_object heap class (first_fields p class)) extends
 
   -- The new object
 

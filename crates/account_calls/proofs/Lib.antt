@@ -1,4 +1,3 @@
-pub mod Beginning
 pub mod Calling
 pub mod Returning
 pub mod Returned

@@ -1,5 +1,5 @@
 -- The label of a new array: the thread that makes it owns all of its elements.
-use Rattle.std.proofs.Common.{◌≡◌, inl, inr, ◌+◌, ◌≤◌, ◌<◌, ℕ, suc, ℤ, pos, negsuc, Bool, true, false, ◌&&◌, ◌||◌, if◌then◌else◌, IsTrue, Option, Some, None, List, [], ◌∷◌, refl, ap, sym, subst, ◌∙◌, arith}
+use Rattle.std.proofs.Common.{◌≡◌, inl, inr, ◌+◌, ◌<◌, ℕ, suc, ℤ, pos, negsuc, Bool, true, false, ◌&&◌, ◌||◌, if◌then◌else◌, IsTrue, Option, Some, None, List, [], ◌∷◌, refl, ap, sym, subst, ◌∙◌, arith}
 use Rattle.std.specs.Prelude.{nat_eq, int_le, int_lt, IsSome}
 use Rattle.std.proofs.lemmas.Option.{none-some, same_Some}
 use Rattle.pv_base.specs.declared.Span.{Span}
@@ -17,7 +17,7 @@ use Rattle.pv_picks.specs.Formulas.Values.{array_of, default_of, within}
 use Rattle.pv_ast.specs.Rules.Typing.{same_type}
 use Rattle.pv_picks.specs.Formulas.Heaps.{Heap, with_array}
 use Rattle.pv_picks.specs.Judge.Runs.{Judged, Maps, blocked, content}
-use Rattle.pv_picks.specs.Judge.States.{State, Resource, InField, InElement, OfToken, OfLock, Holding, amount_held, amount_of, holding, cell_among, is_among, with_met, with_elements, with_length, plain_cell}
+use Rattle.pv_picks.specs.Judge.States.{State, Resource, Holding, amount_held, amount_of, holding, cell_among, is_among, with_met, with_elements, with_length, plain_cell}
 use Rattle.pv_picks.specs.Judge.Settings.{Next, met_as, pick_value}
 use Rattle.pv_picks.specs.Judge.Rows.{is_known, notice_known, fresh, new_array}
 use Rattle.pv_picks.specs.Typing.Heaps.{HasKindOf, IsTypedHeap}
@@ -25,7 +25,7 @@ use Rattle.machine_laws.proofs.Typed.{after-keeps}
 use Rattle.pv_picks.proofs.Sames.{naturals_same}
 use Rattle.pv_picks.specs.Plain.Core.{Program}
 use Rattle.pv_picks.specs.Machine.Labels.{Label}
-use Rattle.pv_picks.specs.Machine.Starts.{field_kind, kind_of}
+use Rattle.pv_picks.specs.Machine.Starts.{field_kind}
 use Rattle.pv_picks.specs.Typing.Expressions.{IsElement}
 use Rattle.pv_picks.specs.Typing.Frames.{HasType}
 use Rattle.account_formulas.specs.Runs.{Taken, truly, RestNeverFails, all_maps}
@@ -36,7 +36,7 @@ use Rattle.account_formulas.specs.Owning.{Amounts, IsPlaced, KeepsHeld}
 use Rattle.account_formulas.proofs.Exhaling.{holding_is}
 use Rattle.account_formulas.proofs.Lengths.{never_number}
 use Rattle.account.proofs.Working.{alike_never}
-use Rattle.account.proofs.Later.{Grown, held_later}
+use Rattle.account.proofs.Later.{Extends, grown_extended, keeps_extended, below_more, Grown, held_later}
 
 -- The judge
 
@@ -129,10 +129,6 @@ makes taken type element length span next s count below never =
         go (pos n) true e k = (n, refl, k)
         go (negsuc n) true e k = absurd (cc e)
 
-pub below_more : (a b : ℕ) → a ≤ b → (xs : List (PvType × ℕ)) → AllBelow a xs → AllBelow b xs
-below_more a b l [] h = tt
-below_more a b l (x ∷ xs) h = (let k = h.0 in omega (arith, l, k), below_more a b l xs h.1)
-
 -- The heap
 
 module _ (p : Program) (flags : ℕ → Bool) (heap : Heap) (sound : HeapFits p heap) (typed : IsTypedHeap (field_kind p) heap)
@@ -160,45 +156,24 @@ module _ (p : Program) (flags : ℕ → Bool) (heap : Heap) (sound : HeapFits p 
       go true e = absurd (none-some n (sym (sound.beyond a (is_new a e)).length ∙ is))
       go false e = is
 
-  some_later : (l : Location) → IsSome (heap.value l) → IsSome (more.value l)
-  some_later l is = go (heap.value l) refl is
-    where
-      go : (o : Option Value) → heap.value l ≡ o → IsSome o → IsSome (more.value l)
-      go None e k = absurd (cc k)
-      go (Some v) e k = subst IsSome (sym (value_later l v e)) refl
-
   kinds_later : (kind : Option Kind) (v : Value) → HasKindOf heap kind v → HasKindOf more kind v
   kinds_later kind v h = after-keeps p (Some (Label.NewArray type (pos size))) heap typed element tt kind v h
 
-  pub grown_made : Grown heap more
-  grown_made = record {
-    keeps = kinds_later;
-    numbers = λ a h i v is. h i v (value_later (location.Cell a i) v is);
-    truths = λ a h i v is. h i v (value_later (location.Cell a i) v is);
-    count = omega arith;
-    class = λ x c is l. is;
+  extends : Extends heap more
+  extends = record {
+    values = value_later;
+    lengths = length_later;
     classes = λ x c is. is;
+    class = λ x c is l. is;
+    kinds = kinds_later;
+    count = omega arith;
   }
 
-  pub keeps_made : (A : Amounts) → KeepsHeld A heap more
-  keeps_made A = record { placed = placed; kept = kept; lengths = length_later }
-    where
-      placed : (r : Resource) → IsPlaced heap r → IsPlaced more r
-      placed (InField c o n) h = (h.0, some_later (location.Field o n) h.1)
-      placed (InElement t a i) h = (
-        (h.0.0, length_later a h.0.0 h.0.1, h.0.2),
-        some_later (location.Cell a i) h.1,
-        h.2,
-        kinds_later (Some (kind_of (array_of t))) (value.Reference a) h.3,
-      )
-      placed (OfToken t c o) h = h
-      placed (OfLock c o) h = h
+  pub grown_made : Grown heap more
+  grown_made = grown_extended heap more extends
 
-      kept : (r : Resource) (v : Value) → 1 ≤ A r → Stands heap r v → Stands more r v
-      kept (InField c o n) v m is = is
-      kept (InElement t a i) v m is = value_later (location.Cell a i) v is
-      kept (OfToken t c o) v m is = tt
-      kept (OfLock c o) v m is = tt
+  pub keeps_made : (A : Amounts) → KeepsHeld A heap more
+  keeps_made = keeps_extended heap more extends
 
   -- the new elements
 

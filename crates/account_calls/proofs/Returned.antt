@@ -1,10 +1,8 @@
 -- A return keeps the account: of a call, and of the method in which a run began.
-use Rattle.std.proofs.Common.{◌≡◌, ℕ, suc, ◌≤◌, ◌<◌, List, [], ◌∷◌, refl, ap, sym, subst, ◌∙◌, arith}
+use Rattle.std.proofs.Common.{◌≡◌, ℕ, ◌<◌, List, [], ◌∷◌, refl, ap, sym, subst, ◌∙◌, arith}
 use Rattle.std.specs.Prelude.{drop}
-use Rattle.pv_fraction.specs.Amounts.{whole}
 use Rattle.pv_picks.specs.declared.check.Check.TheVariants as check
 use Rattle.pv_picks.specs.Plain.Core.{Message, Program}
-use Rattle.pv_picks.specs.Judge.States.{Resource}
 use Rattle.pv_picks.specs.Machine.Tasks.{Task, AtClose, Stand}
 use Rattle.pv_picks.specs.Machine.Frames.{Frame, sight_of, contract_scene, pushes, settled}
 use Rattle.pv_picks.specs.Formulas.Meeting.{unmet}
@@ -19,11 +17,10 @@ use Rattle.account.specs.Owners.{nothing}
 use Rattle.account.specs.Objects.{AtBottom, RoleFits}
 use Rattle.account.specs.Messages.{TasksExchange, bottom_tasks}
 use Rattle.account.specs.Accounts.{Account, Kept}
-use Rattle.account.proofs.Sums.{runs_in_total}
 use Rattle.account.proofs.Exchanging.{settled_exchanges}
 use Rattle.account.specs.Going.{Goes}
 use Rattle.account.proofs.LocalWork.{settled_goes, below_settled}
-use Rattle.account.proofs.Stepping.{by_run}
+use Rattle.account.proofs.Stepping.{own_most, by_run}
 use Rattle.account.proofs.Later.{grown_same, keeps_same}
 use Rattle.account.proofs.Bottom.{bottom_exchanges, stays_at_bottom}
 use Rattle.account.proofs.Moving.{first_same, ends, closes_not, settled_leaves_not, leaves_nothing}
@@ -38,11 +35,6 @@ no_task_waits f h fs hs b ts ended e at =
 
 module _ (p : Program) (w : World) (sound : HeapFits p w.heap) (framed : PredicatesFit p w.heap) (a : Account p w) (i : ℕ)
     (inside : i < w.count) (f : Frame) (over : f.tasks ≡ []) where
-  most_of : (rs : List account.Run) → a.owners.runs i ≡ rs → (q : Resource) → all_of rs q ≤ whole
-  most_of rs has q =
-      let one = runs_in_total a.owners w.count (suc w.heap.count) q i inside in let two = a.sums.most q in
-      let same = ap (λ x. all_of x q) has in omega (arith, one, two, same)
-
   -- to a frame that waits
   module _ (g : Frame) (others : List Frame) (stands_at : (w.threads i).frames ≡ f ∷ g ∷ others) where
     abbrev Onto : List Task → Frame
@@ -106,9 +98,9 @@ module _ (p : Program) (w : World) (sound : HeapFits p w.heap) (framed : Predica
     return_by mode r (s ∷ rs) has fits =
         let waits : WaitsFor p w.committed w.heap (called_of f r) g s = fits.1.0 in
         let d = returns_go p w.committed w.heap sound framed f r fits.0 over g s waits
-        (λ q. let m = most_of (r ∷ s ∷ rs) has q in omega (arith, m)) in
+        (λ q. let m = own_most p w a i inside (r ∷ s ∷ rs) has q in omega (arith, m)) in
         let go = settled_goes p w.committed w.heap sound framed (Onto waits.rest) d.run d.fits d.says
-        (λ q. let m = most_of (r ∷ s ∷ rs) has q in let l = d.less q in omega (arith, m, l)) in
+        (λ q. let m = own_most p w a i inside (r ∷ s ∷ rs) has q in let l = d.less q in omega (arith, m, l)) in
         let behind : drop 1 g.tasks ≡ waits.rest = ap (drop 1) waits.is in
         by_role (w.threads i).role
         (subst (λ o. Kept p (needs_met o check.Ensures (Result.Went (returned p w i f (g ∷ others) (g ∷ others)))))
@@ -119,9 +111,7 @@ module _ (p : Program) (w : World) (sound : HeapFits p w.heap) (framed : Predica
 
     pub return_keeps : (mode : Mode) → Kept p (act p w mode i)
     return_keeps mode = by_run p w a i inside f (g ∷ others) stands_at mode (λ r rs has fits.
-        subst (λ ts. Kept p (act_tasks p w i f (g ∷ others) mode ts)) (sym over) (return_by mode r rs has
-        (subst (λ z. AreRunsOf p w.committed w.heap (f ∷ g ∷ others) z) has
-        (subst (λ z. AreRunsOf p w.committed w.heap z (a.owners.runs i)) stands_at (a.threads.frames i inside)))))
+        subst (λ ts. Kept p (act_tasks p w i f (g ∷ others) mode ts)) (sym over) (return_by mode r rs has fits))
 
   -- of the first call of a run
   module _ (stands_at : (w.threads i).frames ≡ f ∷ []) (entry : (w.threads i).role ≡ Entry) where
@@ -154,6 +144,6 @@ module _ (p : Program) (w : World) (sound : HeapFits p w.heap) (framed : Predica
         subst (λ ts. Kept p (act_tasks p w i f [] mode ts)) (sym over)
         (subst (λ z. Kept p (act_end p w i f [] z [])) (sym entry)
         (subst (λ o. Kept p (needs_met o check.Ensures (Result.Went (returned p w i f [] []))))
-        (sym (end_met p w.committed w.heap f r fits over sound f.method (entry_body r rs has)))
+        (sym (end_met p w.committed w.heap f r fits.0 over sound f.method (entry_body r rs has)))
         (subst (λ z. Account p (ended p w i f [] z)) (sym entry)
         (accounted p w a i inside w.heap [] entry_moves)))))

@@ -15,6 +15,7 @@ use Rattle.pv_picks.specs.Judge.Rows.{bind_for, arguments_of, result_of}
 use Rattle.pv_picks.specs.Judge.Judging.{finish}
 use Rattle.pv_picks.specs.Judge.Runs.{Judged, Maps}
 use Rattle.pv_picks.specs.Machine.Tasks.{Task}
+use Rattle.pv_picks.specs.Machine.Starts.{field_kind}
 use Rattle.pv_picks.specs.Machine.Frames.{Frame, at_lengths_of, contract_scene, pushes}
 use Rattle.pv_picks.specs.Typing.Expressions.{answer_of}
 use Rattle.pv_picks.specs.Typing.Frames.{HasType}
@@ -101,7 +102,7 @@ module _ (p : Program) (flags : ℕ → Bool) (heap : Heap) (sound : HeapFits p 
     past = at_lengths_of heap r.past;
     old = waits.waiting;
     known = waits.known;
-    before = past_fits p heap r.past fits.old.fits;
+    before = past_fits (field_kind p) heap r.past fits.old.fits;
     agrees = waits.stood;
     lengths = λ array n is. is;
   }

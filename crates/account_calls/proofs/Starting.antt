@@ -47,7 +47,8 @@ use Rattle.account.specs.Frames.{standing_in, IsBodyOf, AreRunsOf, amounts_of, a
 use Rattle.account.specs.Owners.{Owners, sum_below, total}
 use Rattle.account.specs.Objects.{RoleFits}
 use Rattle.account.specs.Accounts.{Account}
-use Rattle.account_calls.proofs.Beginning.{Begins, begins}
+use Rattle.account.specs.Going.{Begins}
+use Rattle.account.proofs.Beginning.{begins}
 use Rattle.account.proofs.Moving.{first_same, closes_not}
 
 arguments_typed : (things : Things) (ps : List Parameter) (vs : List Value) → AreArguments things ps vs
@@ -208,10 +209,12 @@ module _ (p : Program) (verified : IsVerifiedThroughout p) (s : Start) (starts :
   asked_at_most q = asked_less (heap_of s.heap) (λ l. units_in (only_now (heap_of s.heap))
       (outer_scene s.object s.method.parameters s.arguments) l s.method.contract.before) whole starts.fit q
 
-  begun : Begins p (λ x. false) (heap_of s.heap) sound framed s.class s.method s.object s.arguments asked_for
+  begun : Begins p (λ x. false) (heap_of s.heap) s.class s.method s.object s.arguments asked_for
   begun = begins p (λ x. false) (heap_of s.heap) sound framed s.class s.method
       (verified.typed.methods s.class starts.name s.method starts.declared).0
       (verified.typed.bodies.methods s.class starts.name s.method starts.declared)
+      (good_formula (in_class p s.class) silent (over [] s.method.parameters) s.method.contract.before
+      (verified.typed.methods s.class starts.name s.method starts.declared).0.3)
       (verified.methods s.class starts.name s.method starts.declared) s.object s.arguments
       (not_null_object (heap_of s.heap) s.class s.object typed.null.class starts.object) this_typed all_typed asked_for
       asked_at_most owned
@@ -275,7 +278,7 @@ module _ (p : Program) (verified : IsVerifiedThroughout p) (s : Start) (starts :
       guards = λ x class f l is inv flag free. absurd (cc flag);
     };
     roles = λ j l. each (λ t rs. RoleFits p (λ x. false) (heap_of s.heap) (first_world s).state j t.role t.frames rs)
-        (record { body = subst (λ c. IsBodyOf c.method c.body) (sym begun.called) begun.is_body }) tt j;
+        (record { body = subst (λ m. IsBodyOf m begun.run.body) (ap (λ c. c.method) (sym begun.called)) begun.body }) tt j;
     blocks = record {
       openers = λ j l f below r rs b rest is runs at. absurd (stands_at_none j f below b rest is at);
       members = λ j l b position role. absurd (no_member j b position role);

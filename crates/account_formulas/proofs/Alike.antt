@@ -23,6 +23,7 @@ use Rattle.account_formulas.specs.Sights.{SceneFits}
 use Rattle.pv_picks.specs.Typing.Frames.{HasType}
 use Rattle.account_formulas.specs.Good.{IsGood, AreGoodItems, IsGoodItem, AreGoodCuts, type_of_cut}
 use Rattle.account_formulas.specs.Owning
+use Rattle.account_formulas.proofs.Steady.{if_same}
 use Rattle.account_formulas.specs.Owning.{Amounts, Owns, OwnsItems, OwnsItem, CutsTo}
 
 pub agree_at : (speech : Speech) (xs : List Parameter) (a b : Scene) (name : Name) (i : ℤ) → ScenesAgree speech xs a b
@@ -56,10 +57,6 @@ agree_then speech xs a b c s t =
           ∙ t.result k is;
     }
 
-if_alike : {R : Type 0} (b : Bool) (x y u v : R) → x ≡ u → y ≡ v → (if b then x else y) ≡ (if b then u else v)
-if_alike true x y u v p q = p
-if_alike false x y u v p q = q
-
 module _ {R : Type 0} (h : Home) (speech : Speech) where
   pub alike : (n o q : Reader R) → (IsTrue speech.old → o ≡ q) → (xs : List Parameter) (a b : Scene) → ScenesAgree speech xs a b
       → (e : Expression) (type : PvType) → Says h speech xs e type → (k l : Value → R) → ((v : Value) → k v ≡ l v)
@@ -88,13 +85,13 @@ module _ {R : Type 0} (h : Home) (speech : Speech) where
       alike n o q old xs a b s d says.0 says.1 _ _ (λ x. alike n o q old xs a b s e says.0 says.2 _ _
       (λ y. ap (λ g. n.matching x y g) (f _)))
   alike n o q old xs a b s (And d e) type says k l f = alike n o q old xs a b s d Truth says.0 _ _
-      (λ x. ap (λ g. n.deciding (truth_in x) g) (if_alike (truth_in x) _ _ _ _ (alike n o q old xs a b s e Truth says.1 k l f)
+      (λ x. ap (λ g. n.deciding (truth_in x) g) (if_same (truth_in x) _ _ _ _ (alike n o q old xs a b s e Truth says.1 k l f)
       (f (value.Truth false))))
   alike n o q old xs a b s (Or d e) type says k l f = alike n o q old xs a b s d Truth says.0 _ _
-      (λ x. ap (λ g. n.deciding (truth_in x) g) (if_alike (truth_in x) _ _ _ _ (f (value.Truth true))
+      (λ x. ap (λ g. n.deciding (truth_in x) g) (if_same (truth_in x) _ _ _ _ (f (value.Truth true))
       (alike n o q old xs a b s e Truth says.1 k l f)))
   alike n o q old xs a b s (Implies d e) type says k l f = alike n o q old xs a b s d Truth says.0 _ _
-      (λ x. ap (λ g. n.deciding (truth_in x) g) (if_alike (truth_in x) _ _ _ _ (alike n o q old xs a b s e Truth says.1 k l f)
+      (λ x. ap (λ g. n.deciding (truth_in x) g) (if_same (truth_in x) _ _ _ _ (alike n o q old xs a b s e Truth says.1 k l f)
       (f (value.Truth true))))
   alike n o q old xs a b s (Old e) type says k l f =
       ap (λ r. evaluate r r a e k) (old says.0) ∙ alike q q q (λ t. refl) xs a b s e type says.1 k l f

@@ -102,7 +102,7 @@ is_met_there : (b : Bool) (span : Span) → unless b span ≡ AllMet → b ≡ t
 is_met_there true span h = refl
 is_met_there false span h = absurd (some_unmet span h)
 
-location_self : (l : Location) → same_location l l ≡ true
+pub location_self : (l : Location) → same_location l l ≡ true
 location_self (location.Field o n) = both _ _ (nat_self o) (nat_self n.0)
 location_self (location.Cell a i) = both _ _ (nat_self a) (number_self i)
 

@@ -26,7 +26,7 @@ use Rattle.account_formulas.proofs.Lengths.{never_number}
 abbrev pub having_met : State → List (PvType × ℕ) → State
 having_met t met = record t { met = met }
 
-beyond_it : (n m : ℕ) → (n ≤ m → ⊥) → m < n
+pub beyond_it : (n m : ℕ) → (n ≤ m → ⊥) → m < n
 beyond_it zero m f = absurd (f (omega arith))
 beyond_it (suc n) zero f = omega arith
 beyond_it (suc n) (suc m) f = let k = beyond_it n m (λ h. f (omega (arith, h))) in omega (arith, k)

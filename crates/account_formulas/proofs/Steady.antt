@@ -14,7 +14,7 @@ use Rattle.pv_picks.specs.Formulas.Meeting.{at}
 use Rattle.pv_picks.specs.Typing.Expressions.{Home, Speech, type_in, Says}
 use Rattle.pv_picks.proofs.Sames.{names_same}
 
-if_same : {R : Type 0} (b : Bool) (x y u v : R) → x ≡ u → y ≡ v → (if b then x else y) ≡ (if b then u else v)
+pub if_same : {R : Type 0} (b : Bool) (x y u v : R) → x ≡ u → y ≡ v → (if b then x else y) ≡ (if b then u else v)
 if_same true x y u v p q = p
 if_same false x y u v p q = q
 

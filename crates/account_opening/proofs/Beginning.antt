@@ -11,6 +11,7 @@ use Rattle.pv_picks.specs.Formulas.Heaps.{Heap}
 use Rattle.pv_picks.specs.Formulas.Meeting.{at}
 use Rattle.pv_picks.specs.Judge.States.{Resource, State, scene_of}
 use Rattle.pv_picks.specs.Machine.Tasks.{AtOpen, Run, Task, Stand}
+use Rattle.pv_picks.specs.Machine.Starts.{field_kind}
 use Rattle.pv_picks.specs.Machine.Frames.{Frame, top, second, only_now, at_lengths_of, body_scene}
 use Rattle.pv_picks.specs.Machine.Worlds.{member_of}
 use Rattle.pv_picks.specs.Typing.Expressions.{Home, silent}
@@ -106,7 +107,7 @@ module _ (p : Program) (flags : ℕ → Bool) (heap : Heap) (sound : HeapFits p 
     past = at_lengths_of heap r.past;
     old = r.state.old;
     known = fits.old.known;
-    before = past_fits p heap r.past fits.old.fits;
+    before = past_fits (field_kind p) heap r.past fits.old.fits;
     agrees = fits.old.agrees;
     lengths = λ array n e. e;
   }

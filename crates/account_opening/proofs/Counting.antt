@@ -1,22 +1,16 @@
 -- The numbers of new threads behind a count, and sums over them.
-use Rattle.std.proofs.Common.{◌≡◌, ℕ, zero, suc, ◌+◌, ◌-◌, ◌≤◌, ◌<◌, ℤ, pos, Bool, true, false, ◌&&◌, refl, ap, subst, arith, rules}
-use Rattle.std.specs.Prelude.{negsuc, nat_eq, nat_le, nat_lt, int_le, int_lt, ◌+ℤ◌, ◌-ℤ◌}
+use Rattle.std.proofs.Common.{◌≡◌, ℕ, zero, suc, ◌+◌, ◌-◌, ◌≤◌, ◌<◌, ℤ, pos, Bool, true, false, ◌&&◌, refl, ap, arith, rules}
+use Rattle.std.specs.Prelude.{nat_le, nat_lt, ◌+ℤ◌}
 use Rattle.std.proofs.lemmas.Int.{ints}
 use Rattle.pv_picks.specs.Formulas.Meeting.{sum_of_each}
-use Rattle.pv_picks.specs.Formulas.Values.{within, width, or_zero}
-use Rattle.pv_picks.proofs.Sames.{front, back, naturals_same}
-use Rattle.account_formulas.proofs.Basics.{at_most, is_at_most, both, not_false}
+use Rattle.pv_picks.proofs.Sames.{front, back}
+use Rattle.account_formulas.proofs.Basics.{at_most, is_at_most, both}
 use Rattle.account.specs.Owners.{sum_below}
+use Rattle.account.proofs.Numbers.{is_below, below_of}
 
 -- whether a number is one of so many behind a count
 abbrev pub is_behind : ℕ → ℕ → ℕ → Bool
 is_behind count n j = nat_le count j && nat_lt j (count + n)
-
-is_below : (m n : ℕ) → m < n → nat_lt m n ≡ true
-is_below m n h = search (rules)
-
-below_of : (m n : ℕ) → nat_lt m n ≡ true → m < n
-below_of m n h = search (rules)
 
 pub is_number : (count n k : ℕ) → k < n → is_behind count n (count + k) ≡ true
 is_number count n k l = both (nat_le count (count + k)) (nat_lt (count + k) (count + n))
@@ -48,26 +42,6 @@ comes_before count n j e l = by (nat_lt j count) refl
 
 pub difference : (count k : ℕ) → count + k - count ≡ k
 difference count k = omega arith
-
--- what is below a number is another one
-pub other_number : (j n : ℕ) → j < n → nat_eq j n ≡ false
-other_number j n l = by (nat_eq j n) refl
-  where
-    by : (x : Bool) → nat_eq j n ≡ x → x ≡ false
-    by false e = refl
-    by true e = let same = naturals_same j n e in absurd (omega (arith, same, l))
-
--- the position of a number
-pub number_within : (low high : ℤ) (k : ℕ) → k < width low high → within low high (low +ℤ pos k) ≡ true
-number_within low high k l = go (high -ℤ low) refl
-  where
-    go : (d : ℤ) → high -ℤ low ≡ d → within low high (low +ℤ pos k) ≡ true
-    go (pos n) e =
-        let less : k < n = subst (λ z. k < or_zero z) e l in
-        both (int_le low (low +ℤ pos k)) (int_lt (low +ℤ pos k) high)
-        (not_false (int_le low (low +ℤ pos k)) (λ z. omega (arith, ints)))
-        (not_false (int_lt (low +ℤ pos k) high) (λ z. omega (arith, ints)))
-    go (negsuc n) e = let less : k < 0 = subst (λ z. k < or_zero z) e l in absurd (omega (arith, less))
 
 -- the sum over positions, with its last part apart
 each_last : (f : ℤ → ℕ) (n : ℕ) (low : ℤ) → sum_of_each f low (suc n) ≡ sum_of_each f low n + f (low +ℤ pos n)

@@ -1,5 +1,5 @@
 -- The step of a thread that stands at the opening of a block: it isn't wrong, and the world after it is accounted for.
-use Rattle.std.proofs.Common.{◌≡◌, ℕ, zero, suc, ◌+◌, ◌≤◌, ◌<◌, ℤ, Bool, true, false, not, if◌then◌else◌, List, [], ◌∷◌, refl, ap, sym, subst, ◌∙◌, arith}
+use Rattle.std.proofs.Common.{◌≡◌, ℕ, zero, suc, ◌+◌, ◌≤◌, ◌<◌, ℤ, Bool, true, false, if◌then◌else◌, List, [], ◌∷◌, refl, ap, sym, subst, ◌∙◌, arith}
 use Rattle.pv_base.specs.declared.Name.{Name}
 use Rattle.pv_fraction.specs.Amounts.{whole}
 use Rattle.pv_picks.specs.declared.check.Check.TheVariants as check
@@ -10,8 +10,8 @@ use Rattle.pv_picks.specs.Judge.States.{Resource, OfLock, nothing_held}
 use Rattle.pv_picks.specs.Machine.Tasks.{AtClose, Step, Task, Stand}
 use Rattle.pv_picks.specs.Machine.Frames.{Frame, top, second, pops, settled, worked, after_work, only_now, body_scene}
 use Rattle.pv_picks.specs.Machine.Measures.{size_of_tasks}
-use Rattle.pv_picks.specs.Machine.Worlds.{Free, Mode, World, has_no_frame, is_held_back, member_of, with_frames, with_members}
-use Rattle.pv_picks.specs.Machine.Steps.{Result, needs_met, waits_unless, act, act_frames, act_tasks}
+use Rattle.pv_picks.specs.Machine.Worlds.{Free, Mode, World, has_no_frame, member_of, with_frames, with_members}
+use Rattle.pv_picks.specs.Machine.Steps.{Result, needs_met, act, act_tasks}
 use Rattle.account_formulas.specs.Growing.{HeapFits}
 use Rattle.account_formulas.specs.Gaining.{PredicatesFit}
 use Rattle.account_formulas.specs.Owning.{Amounts}
@@ -28,9 +28,9 @@ use Rattle.account.specs.Messages.{IsKnown}
 use Rattle.account.specs.Accounts.{Account, Kept}
 use Rattle.account.proofs.Supplying.{heaps_fit}
 use Rattle.account.proofs.Framing.{predicates_taken_in}
+use Rattle.account.proofs.Stepping.{own_most, by_run}
 use Rattle.account.proofs.Exchanging.{settled_exchanges}
 use Rattle.account.proofs.Working.{not_closing, not_leaving}
-use Rattle.account.proofs.Sums.{runs_in_total}
 use Rattle.account.proofs.Locks.{locks_less, owns_locked}
 use Rattle.core_trees.specs.Messages.{sent_in_block}
 use Rattle.account.specs.Openings.{IsAtOpening}
@@ -65,8 +65,7 @@ module _ (p : Program) (w : World) (a : Account p w) (sound : HeapFits p w.heap)
 
   most : (q : Resource) → amounts_of r q ≤ whole
   most q =
-      let one = runs_in_total a.owners w.count (suc w.heap.count) q i inside in let two = a.sums.most q in
-      let same = ap (λ x. all_of x q) has_runs in omega (arith, one, two, same)
+      let one = own_most p w a i inside (r ∷ rs) has_runs q in omega (arith, one)
 
   less : (q : Resource) → amounts_of (opening.run p w.committed w.heap sound f r fits.0 here.team here.body here.rest here.tasks
       here.alike) q + (opening.gave p w.committed w.heap sound f r fits.0 here.team here.body here.rest here.tasks
@@ -213,19 +212,8 @@ pub open_keeps : (p : Program) (w : World) (a : Account p w) → HeapFits p w.he
     → i < w.count → (f : Frame) (below : List Frame) → (w.threads i).frames ≡ f ∷ below
     → IsAtOpening f below (w.threads i).role → (mode : Mode) → Kept p (act p w mode i)
 open_keeps p w a sound framed i inside f below stack here mode =
-    subst (λ fs. Kept p (act_frames p w mode i fs)) (sym stack) (held (not (is_held_back w i))
-    (by_runs (a.owners.runs i) refl
-    (subst (λ fs. AreRunsOf p w.committed w.heap fs (a.owners.runs i)) stack (a.threads.frames i inside))))
-  where
-    held : (x : Bool) → Kept p (act_tasks p w i f below mode f.tasks)
-        → Kept p (waits_unless x (act_tasks p w i f below mode f.tasks))
-    held true h = h
-    held false h = tt
-
-    by_runs : (rs : List account.Run) → a.owners.runs i ≡ rs → AreRunsOf p w.committed w.heap (f ∷ below) rs
-        → Kept p (act_tasks p w i f below mode f.tasks)
-    by_runs [] e fits = absurd fits
-    by_runs (r ∷ rs) e fits = keeps p w a sound framed i inside f below stack r rs e fits here mode
+    by_run p w a i inside f below stack mode
+    (λ r rs e fits. keeps p w a sound framed i inside f below stack r rs e fits here mode)
 
 pub openings_keep : OpeningsKeep
 openings_keep p verified w reached a i f below stack at mode =

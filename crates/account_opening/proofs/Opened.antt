@@ -28,14 +28,11 @@ use Rattle.account.specs.Blocks.{scene_at, FormsAreAlike, CanClose, WaitsForMemb
 use Rattle.account.specs.Messages.{TasksExchange, bottom_tasks, IsKnown, ReceivesNone, Lies}
 use Rattle.account.specs.Accounts.{Account}
 use Rattle.account.proofs.Sums.{sums_less, sum_changed, sum_same, at_same, at_other}
-use Rattle.account.proofs.Bottom.{role_moves, member_moves}
-use Rattle.account_opening.proofs.Counting.{is_behind, is_number, has_number, is_before, comes_before, difference, other_number, number_within, sum_with_more}
-
-same_head : (f g : Frame) (fs gs : List Frame) → f ∷ fs ≡ g ∷ gs → f ≡ g
-same_head f g fs gs e = cc e
-
-same_run : (r s : Run) (rs ss : List Run) → r ∷ rs ≡ s ∷ ss → r ≡ s
-same_run r s rs ss e = cc e
+use Rattle.account.proofs.Bottom.{bottom_exchanges, role_moves, member_moves}
+use Rattle.account.proofs.Moving.{first_same}
+use Rattle.account_opening.proofs.Counting.{is_behind, is_number, has_number, is_before, comes_before, difference, sum_with_more}
+use Rattle.machine_laws.proofs.Growth.{above}
+use Rattle.account.proofs.Numbers.{number_within}
 
 module _ (p : Program) (w : World) (a : Account p w) (i : ℕ) (inside : i < w.count) (f : Frame) (below : List Frame)
     (stack : (w.threads i).frames ≡ f ∷ below) (r : Run) (rs : List Run) (has_runs : a.owners.runs i ≡ r ∷ rs) (team : Team)
@@ -180,13 +177,13 @@ module _ (p : Program) (w : World) (a : Account p w) (i : ℕ) (inside : i < w.c
     -- Blocks
 
     block_as : (c : ℕ) → c < w.block_count → blocks c ≡ w.blocks c
-    block_as c l = at_other w.block_count c block w.blocks (other_number c w.block_count l)
+    block_as c l = at_other w.block_count c block w.blocks (above c w.block_count l)
 
     opening_as : (c : ℕ) → c < w.block_count → after.openings c ≡ a.owners.openings c
-    opening_as c l = at_other w.block_count c opening a.owners.openings (other_number c w.block_count l)
+    opening_as c l = at_other w.block_count c opening a.owners.openings (above c w.block_count l)
 
     messages_as : (c : ℕ) → c < w.block_count → after.messages c ≡ a.owners.messages c
-    messages_as c l = at_other w.block_count c messages a.owners.messages (other_number c w.block_count l)
+    messages_as c l = at_other w.block_count c messages a.owners.messages (above c w.block_count l)
 
     -- who waits for an old block goes on to wait
     waits_on : (o c : ℕ) (h : Frame) (q : Run) (more : List Task)
@@ -253,12 +250,12 @@ module _ (p : Program) (w : World) (a : Account p w) (i : ℕ) (inside : i < w.c
         (after.openings c) o c (world.blocks c) h q more
     openers o l h hs q qs c more true new y own frames runs tasks =
         absurd (m.not_closing (position_at o) (within_at o new) c more
-        (ap (λ z. z.tasks) (same_head (member_of f team body (position_at o)) h [] hs frames) ∙ tasks))
+        (ap (λ z. z.tasks) (first_same (member_of f team body (position_at o)) h [] hs frames) ∙ tasks))
     openers o l h hs q qs c more false old false other frames runs tasks =
         waits_on o c h q more (a.blocks.openers o (old_at o l old) h hs q qs c more frames runs tasks)
     openers o l h hs q qs c more false old true own frames runs tasks =
-        let frame = same_head g h below hs frames in
-        let run = same_run s q rs qs runs in
+        let frame = first_same g h below hs frames in
+        let run = first_same s q rs qs runs in
         let both : Stand (AtClose w.block_count) ∷ rest ≡ Stand (AtClose c) ∷ more = ap (λ z. z.tasks) frame ∙ tasks in
         let number : w.block_count ≡ c = cc both in
         let after_it : rest ≡ more = cc both in
@@ -301,7 +298,7 @@ module _ (p : Program) (w : World) (a : Account p w) (i : ℕ) (inside : i < w.c
         by false k = e
         by true k =
             let tasks : Stand (AtOpen team body) ∷ rest ≡ Stand (AtClose c) ∷ more =
-            sym is ∙ (ap (λ z. z.tasks) (same_head f h below hs
+            sym is ∙ (ap (λ z. z.tasks) (first_same f h below hs
             (sym stack ∙ (ap (λ z. (w.threads z).frames) (sym (naturals_same o i k)) ∙ e))) ∙ t) in
             absurd (cc tasks)
 
@@ -358,7 +355,7 @@ module _ (p : Program) (w : World) (a : Account p w) (i : ℕ) (inside : i < w.c
             k.arrived h q qs barrier span others frames runs tasks
         arrived_at true e h q qs barrier span others frames runs tasks =
             let both : Stand (AtClose w.block_count) ∷ rest ≡ Stand (AtLeave barrier span) ∷ others =
-            ap (λ z. z.tasks) (same_head g h below [] frames) ∙ tasks in absurd (cc both)
+            ap (λ z. z.tasks) (first_same g h below [] frames) ∙ tasks in absurd (cc both)
 
     -- a new member
     new_runs : (j : ℕ) → j < w.count + width low high → is_behind w.count (width low high) j ≡ true
@@ -384,7 +381,7 @@ module _ (p : Program) (w : World) (a : Account p w) (i : ℕ) (inside : i < w.c
               (members (position_at j) ∷ [])) (sym new) (m.are (position_at j) (within_at j new));
           arrived = λ h q qs barrier span others frames runs tasks.
               absurd (m.not_leaving (position_at j) (within_at j new) barrier span others
-              (ap (λ z. z.tasks) (same_head (member_of f team body (position_at j)) h [] []
+              (ap (λ z. z.tasks) (first_same (member_of f team body (position_at j)) h [] []
               (sym (ap (λ x. (thread_if x (nat_eq j i) j).frames) new) ∙ frames)) ∙ tasks));
         }))
 
@@ -421,8 +418,7 @@ module _ (p : Program) (w : World) (a : Account p w) (i : ℕ) (inside : i < w.c
 
     exchange_below : (S R : Message → Type 0) (xs : List Frame) → TasksExchange S R (bottom_tasks (f ∷ xs))
         → TasksExchange S R (bottom_tasks (g ∷ xs))
-    exchange_below S R [] h = (tt, (subst (TasksExchange S R) is h).1)
-    exchange_below S R (x ∷ xs) h = h
+    exchange_below S R xs h = bottom_exchanges S R f g (λ k. (tt, (subst (TasksExchange S R) is k).1)) xs h
 
     -- messages of an old block are what they were, where the thread hasn't ended
     known_before : (fs : List Frame) (c : ℕ) → (has_no_frame fs ≡ false → c < w.block_count)

@@ -18,6 +18,7 @@ use Rattle.pv_picks.specs.Judge.Rows.{Site}
 use Rattle.pv_picks.specs.Judge.Judging.{finish, inhale_own, at_body_end, turn_of, choose_turn, at_some, judge_block}
 use Rattle.pv_picks.specs.Judge.Runs.{Judged, Maps}
 use Rattle.pv_picks.specs.Machine.Tasks.{AtOpen, AtClose, Task, Stand}
+use Rattle.pv_picks.specs.Machine.Starts.{field_kind}
 use Rattle.pv_picks.specs.Machine.Frames.{Frame, top, second, pops, only_now, at_lengths_of, sight_of, body_scene}
 use Rattle.pv_picks.specs.Typing.Expressions.{Home, silent}
 use Rattle.pv_picks.specs.Typing.Blocks.{inside}
@@ -108,7 +109,7 @@ module _ (p : Program) (flags : ℕ → Bool) (heap : Heap) (sound : HeapFits p 
     past = at_lengths_of heap r.past;
     old = r.state.old;
     known = fits.old.known;
-    before = past_fits p heap r.past fits.old.fits;
+    before = past_fits (field_kind p) heap r.past fits.old.fits;
     agrees = fits.old.agrees;
     lengths = λ array n e. e;
   }

@@ -17,15 +17,10 @@ use Rattle.account.specs.Owners.{Owners, nothing, carried_by, at_thread, total}
 use Rattle.account.specs.Objects.{AtBottom, RoleFits}
 use Rattle.account.specs.Blocks.{scene_at, WaitsForMembers, IsMember, HasArrived, MemberRuns}
 use Rattle.account.specs.Messages.{TasksExchange, bottom_tasks, IsKnown, ReceivesNone, Lies}
-use Rattle.account.proofs.Sums.{below_other, sum_same}
+use Rattle.account.proofs.Sums.{sum_same}
+use Rattle.machine_laws.proofs.Members.{below_other}
+use Rattle.machine_laws.proofs.Growth.{above}
 use Rattle.account.proofs.Moving.{Families}
-
-pub other_number : (j n : ℕ) → j < n → nat_eq j n ≡ false
-other_number j n l = go (nat_eq j n) refl
-  where
-    go : (b : Bool) → nat_eq j n ≡ b → b ≡ false
-    go false e = refl
-    go true e = let same = naturals_same j n e in absurd (omega (arith, same, l))
 
 -- owners with one thread more, at which nothing lies
 abbrev pub with_more : Owners → ℕ → List account.Run → Owners
@@ -43,7 +38,7 @@ module _ (p : Program) (flags : ℕ → Bool) (heap : Heap) (count : ℕ) (threa
 
     -- of a number below the count
     as_was : {A : Type 0} (x : A) (g : ℕ → A) (j : ℕ) → j < count → at_number count x g j ≡ g j
-    as_was x g j l = ap (λ b. if b then x else g j) (other_number j count l)
+    as_was x g j l = ap (λ b. if b then x else g j) (above j count l)
 
     thread_as : (j : ℕ) → j < count → at_number count t threads j ≡ threads j
     thread_as j l = as_was t threads j l
@@ -165,7 +160,7 @@ pub total_with_more : (o : Owners) (n objects : ℕ) (rs : List account.Run) (q 
 total_with_more o n objects rs q =
     let rest = sum_same (λ j. at_thread (with_more o n rs) j q) (λ j. at_thread o j q) n
     (λ j l. ap (λ b. all_of (if b then rs else o.runs j) q
-    + ((if b then nothing else o.left j) q + carried_by (if b then [] else o.mail j) q)) (other_number j n l)) in
+    + ((if b then nothing else o.left j) q + carried_by (if b then [] else o.mail j) q)) (above j n l)) in
     let own : at_thread (with_more o n rs) n q ≡ all_of rs q + 0 =
     ap (λ b. all_of (if b then rs else o.runs n) q
     + ((if b then nothing else o.left n) q + carried_by (if b then [] else o.mail n) q)) (nat_self n) in

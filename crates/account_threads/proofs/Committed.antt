@@ -13,8 +13,8 @@ use Rattle.pv_picks.specs.Formulas.Meeting.{found_met}
 use Rattle.pv_picks.specs.Judge.States.{Resource, OfToken, OfLock}
 use Rattle.pv_picks.specs.Machine.Tasks.{AtAction, Task, Stand}
 use Rattle.pv_picks.specs.Machine.Frames.{Frame, pops, settled, outer_scene}
-use Rattle.pv_picks.specs.Machine.Worlds.{World, Mode, with_frames, with_committed_object, has_no_frame, is_held_back}
-use Rattle.pv_picks.specs.Machine.Steps.{Result, needs, act_commit, keeps_invariant, act_tasks, act_frames, act}
+use Rattle.pv_picks.specs.Machine.Worlds.{World, Mode, with_frames, with_committed_object, has_no_frame}
+use Rattle.pv_picks.specs.Machine.Steps.{Result, needs, act_commit, keeps_invariant, act_tasks, act}
 use Rattle.pv_picks.proofs.Sames.{naturals_same}
 use Rattle.account_formulas.specs.Owning.{KeepsOwning}
 use Rattle.account_formulas.specs.Growing.{HeapFits}
@@ -28,7 +28,7 @@ use Rattle.account.specs.Accounts.{Account, Kept}
 use Rattle.account.specs.Going.{Goes}
 use Rattle.account.proofs.LocalWork.{settled_goes}
 use Rattle.account.proofs.Sums.{runs_in_total, total_with_runs, total_with_guard}
-use Rattle.account.proofs.Stepping.{is_not_null}
+use Rattle.account.proofs.Stepping.{own_most, by_run, is_not_null}
 use Rattle.account_threads.specs.Parts.{InvariantsFit}
 use Rattle.account.proofs.Locks.{locks_less}
 use Rattle.account_threads.proofs.Acting.{object_on, allowed, acts_on_class}
@@ -36,7 +36,7 @@ use Rattle.account_threads.proofs.Committing.{CommitGoes, commits_go}
 use Rattle.account_threads.proofs.Going.{families_go}
 use Rattle.account_threads.proofs.Flagged.{goes_on_flagged, runs_flagged, families_flagged}
 use Rattle.account.proofs.Moving.{Families, families_of, owners_with}
-use Rattle.account_threads.proofs.Families.{own_most, object_is, object_below, waits_kept}
+use Rattle.account_threads.proofs.Families.{object_is, object_below}
 
 -- one object more is committed
 pub rises : (flags : ℕ → Bool) (object x : ℕ) → flags x ≡ true → at_number object true flags x ≡ true
@@ -193,10 +193,7 @@ pub commit_keeps : (p : Program) (w : World) (a : Account p w) → HeapFits p w.
     → (w.threads i).frames ≡ f ∷ below → f.tasks ≡ Stand (AtAction Commit class span) ∷ rest
     → (mode : Mode) → Kept p (act p w mode i)
 commit_keeps p w a sound framed parts i f below class span rest stack is mode =
-    subst (λ fs. Kept p (act_frames p w mode i fs)) (sym stack)
-    (waits_kept p (not (is_held_back w i)) (act_tasks p w i f below mode f.tasks)
-    (by_runs (a.owners.runs i) refl (subst (λ fs. AreRunsOf p w.committed w.heap fs (a.owners.runs i)) stack
-    (a.threads.frames i inside))))
+    by_run p w a i inside f below stack mode by_runs
   where
     inside : i < w.count
     inside = a.threads.live i (ap has_no_frame stack)
@@ -205,10 +202,9 @@ commit_keeps p w a sound framed parts i f below class span rest stack is mode =
     next : World
     next = with_committed_object (with_frames w i (settled (pops 1 f rest) ∷ below)) (object_on f)
 
-    by_runs : (rs : List account.Run) → a.owners.runs i ≡ rs → AreRunsOf p w.committed w.heap (f ∷ below) rs
-        → Kept p (act_tasks p w i f below mode f.tasks)
-    by_runs [] e fits = absurd fits
-    by_runs (r ∷ rs) e fits =
+    by_runs : (r : account.Run) (rs : List account.Run) → a.owners.runs i ≡ r ∷ rs
+        → AreRunsOf p w.committed w.heap (f ∷ below) (r ∷ rs) → Kept p (act_tasks p w i f below mode f.tasks)
+    by_runs r rs e fits =
         let named = allowed p w.committed w.heap f r fits.0 Commit class span rest is in
         let after = runs_flagged p w.committed (at_number (object_on f) true w.committed) (rises w.committed (object_on f)) w.heap
         (f ∷ below) (r ∷ rs) fits in

@@ -13,6 +13,7 @@ use Rattle.pv_picks.specs.Plain.Members.{run_of}
 use Rattle.pv_picks.specs.Formulas.Heaps.{Heap, at_number}
 use Rattle.pv_picks.specs.Formulas.Meeting.{AllMet, unmet}
 use Rattle.pv_picks.specs.Judge.States.{Resource, OfToken, OfLock}
+use Rattle.pv_picks.specs.Machine.Starts.{field_kind}
 use Rattle.pv_picks.specs.Machine.Frames.{Frame, contract_scene, sight_of, at_lengths_of, only_now, outer_scene}
 use Rattle.pv_picks.specs.Machine.Worlds.{RunOf, MemberOf, ThreadState, World, Mode, with_frames, with_state, has_no_frame, is_held_back}
 use Rattle.pv_picks.specs.Machine.Steps.{Result, needs_met, ended, returned, act_end, act_tasks, act_frames, act}
@@ -41,9 +42,10 @@ use Rattle.account.proofs.Ended.{past_fits, end_scene, end_gives, end_met}
 use Rattle.account_threads.specs.Parts.{RunsFit}
 use Rattle.account.proofs.Locks.{locks_less, goes_on_locked}
 use Rattle.account_threads.proofs.OfObject.{object_scene}
+use Rattle.account.proofs.Stepping.{own_most}
 use Rattle.account.proofs.Moving.{Families, families_of, owners_with}
 use Rattle.account_threads.proofs.Ending.{no_role, families_end}
-use Rattle.account_threads.proofs.Families.{role_restated, own_most, object_below, waits_kept}
+use Rattle.account_threads.proofs.Families.{role_restated, object_below, waits_kept}
 
 same_number_of : (i j : ℕ) → ThreadState.Running i ≡ ThreadState.Running j → i ≡ j
 same_number_of i j e = cc e
@@ -61,7 +63,7 @@ module _ (p : Program) (flags : ℕ → Bool) (heap : Heap) (sound : HeapFits p 
     past = at_lengths_of heap stays.past;
     old = stays.old;
     known = stays.known;
-    before = past_fits p heap stays.past stays.before;
+    before = past_fits (field_kind p) heap stays.past stays.before;
     agrees = stays.agrees;
     lengths = λ a n is. is;
   }

@@ -1,59 +1,25 @@
 -- What a thread of an accounted world has, of objects, and of the states of threads.
-use Rattle.std.proofs.Common.{◌≡◌, ℕ, zero, suc, ◌+◌, ◌≤◌, ◌<◌, Bool, true, false, Some, List, refl, ap, sym, subst, ◌∙◌, arith}
+use Rattle.std.proofs.Common.{◌≡◌, ℕ, zero, suc, ◌<◌, Bool, true, false, Some, List, sym, ◌∙◌, arith}
 use Rattle.std.specs.Prelude.{nat_eq}
 use Rattle.std.proofs.lemmas.Option.{none-some}
 use Rattle.pv_base.specs.declared.Name.{Name}
 use Rattle.pv_ast.specs.declared.PvType.TheVariants.{Object}
 use Rattle.pv_values.specs.declared.value.Value.TheVariants as value
-use Rattle.pv_fraction.specs.Amounts.{whole}
 use Rattle.pv_picks.specs.Plain.Core.{Program}
 use Rattle.pv_picks.specs.Formulas.Heaps.{Heap}
-use Rattle.pv_picks.specs.Judge.States.{Resource}
 use Rattle.pv_picks.specs.Machine.Frames.{Frame}
-use Rattle.pv_picks.specs.Machine.Worlds.{Role, Entry, RunOf, MemberOf, Thread, OpenBlock, ThreadState, World}
+use Rattle.pv_picks.specs.Machine.Worlds.{Role, Entry, RunOf, MemberOf, Thread, OpenBlock, ThreadState}
 use Rattle.pv_picks.specs.Machine.Steps.{Result, waits_unless}
-use Rattle.pv_picks.proofs.Sames.{naturals_same}
 use Rattle.pv_picks.specs.Typing.Frames.{HasType}
 use Rattle.account_formulas.specs.Growing.{HeapFits}
-use Rattle.account_formulas.proofs.Basics.{nat_self}
 use Rattle.account_formulas.proofs.Picking.{not_beyond}
 use Rattle.account.specs.Frames as account
 use Rattle.account.specs.Frames.{AreRunsOf, all_of, amounts_of}
-use Rattle.account.specs.Owners.{Owners, sum_below}
+use Rattle.account.specs.Owners.{Owners}
 use Rattle.account.specs.Objects.{IsThreadOf, RoleFits}
-use Rattle.account.specs.Accounts.{Account, Kept}
-use Rattle.account.proofs.Sums.{below_other, part_of, runs_in_total}
+use Rattle.account.specs.Accounts.{Kept}
 use Rattle.account.proofs.Bottom.{bottom_as}
 use Rattle.account.proofs.Moving.{Families}
-
--- What a thread has
-
--- two parts of a sum
-pub two_of : (f : ℕ → ℕ) (n i j : ℕ) → i < n → j < n → nat_eq j i ≡ false → f i + f j ≤ sum_below f n
-two_of f zero i j k l apart = absurd (omega (arith, k))
-two_of f (suc n) i j k l apart = go (nat_eq i n) refl (nat_eq j n) refl (λ x y. two_of f n i j x y apart)
-  where
-    go : (x : Bool) → nat_eq i n ≡ x → (y : Bool) → nat_eq j n ≡ y → (i < n → j < n → f i + f j ≤ sum_below f n)
-        → f i + f j ≤ f n + sum_below f n
-    go true a true b more =
-        let one = naturals_same i n a in
-        let two = naturals_same j n b in
-        let here : nat_eq j i ≡ true = subst (λ z. nat_eq z i ≡ true) (one ∙ sym two) (nat_self i) in
-        absurd (cc (apart, here))
-    go true a false b more =
-        let same = ap f (naturals_same i n a) in let one = part_of f n j (below_other j n b l) in omega (arith, same, one)
-    go false a true b more =
-        let same = ap f (naturals_same j n b) in let one = part_of f n i (below_other i n a k) in omega (arith, same, one)
-    go false a false b more = let one = more (below_other i n a k) (below_other j n b l) in omega (arith, one)
-
--- a thread's runs have at most the whole
-pub own_most : (p : Program) (w : World) (a : Account p w) (i : ℕ) → i < w.count → (rs : List account.Run) → a.owners.runs i ≡ rs
-    → (q : Resource) → all_of rs q ≤ whole
-own_most p w a i l rs has q =
-    let one = runs_in_total a.owners w.count (suc w.heap.count) q i l in
-    let two = a.sums.most q in
-    let same = ap (λ x. all_of x q) has in
-    omega (arith, one, two, same)
 
 -- Of objects
 

@@ -1,6 +1,6 @@
 -- The label of a fork: what the precondition of `run` asks for goes to a new thread.
 use Rattle.std.proofs.Common.{◌≡◌, ℕ, suc, ◌+◌, ◌≤◌, ◌<◌, Bool, true, false, if◌then◌else◌, Some, List, [], ◌∷◌, refl, ap, sym, subst, ◌∙◌, arith}
-use Rattle.std.specs.Prelude.{nat_eq, not, nat_le, drop}
+use Rattle.std.specs.Prelude.{nat_eq, nat_le, drop}
 use Rattle.std.proofs.lemmas.Option.{same_Some}
 use Rattle.pv_base.specs.declared.Name.{Name}
 use Rattle.pv_base.specs.declared.Span.{Span}
@@ -18,8 +18,8 @@ use Rattle.pv_picks.specs.Judge.Rows.{bind_on, exhale_at}
 use Rattle.pv_picks.specs.Judge.Judging.{contract_of}
 use Rattle.pv_picks.specs.Machine.Tasks.{AtAction, Task, Stand}
 use Rattle.pv_picks.specs.Machine.Frames.{Frame, pops, settled, entered, only_now, outer_scene}
-use Rattle.pv_picks.specs.Machine.Worlds.{RunOf, ThreadState, World, Mode, with_frames, with_thread, with_state, has_no_frame, is_held_back}
-use Rattle.pv_picks.specs.Machine.Steps.{Result, needs, not_null, act_fork, act_tasks, act_frames, act}
+use Rattle.pv_picks.specs.Machine.Worlds.{RunOf, ThreadState, World, Mode, with_frames, with_thread, with_state, has_no_frame}
+use Rattle.pv_picks.specs.Machine.Steps.{Result, needs, not_null, act_fork, act_tasks, act}
 use Rattle.pv_picks.proofs.Sames.{naturals_same, resources_same}
 use Rattle.account_formulas.specs.Runs.{truly, RestNeverFails}
 use Rattle.account_formulas.specs.Owning.{IsPlaced, Owns, KeepsOwning}
@@ -46,8 +46,9 @@ use Rattle.account_formulas.specs.Sights.{SceneFits}
 use Rattle.account.specs.Accounts.{Account, Kept}
 use Rattle.account.specs.Going.{Goes}
 use Rattle.account.proofs.LocalWork.{settled_goes}
-use Rattle.account.proofs.Sums.{below_other, at_same, runs_in_total, total_with_runs}
-use Rattle.account.proofs.Stepping.{is_not_null}
+use Rattle.account.proofs.Sums.{at_same, runs_in_total, total_with_runs}
+use Rattle.machine_laws.proofs.Members.{below_other}
+use Rattle.account.proofs.Stepping.{own_most, by_run, is_not_null}
 use Rattle.account_threads.specs.Parts.{RunsFit}
 use Rattle.account.proofs.Locks.{locks_less, owns_locked}
 use Rattle.account_threads.proofs.OfObject.{by_test, object_scene}
@@ -59,7 +60,7 @@ use Rattle.account_threads.proofs.Adding.{with_more, families_add, total_with_mo
 use Rattle.account_threads.proofs.Going.{families_go}
 use Rattle.account_threads.proofs.Locked.{nothing_of}
 use Rattle.account.proofs.Moving.{first_same, closes_not, Families, families_of, owners_with}
-use Rattle.account_threads.proofs.Families.{families_restated, own_most, object_is, waits_kept}
+use Rattle.account_threads.proofs.Families.{families_restated, object_is}
 
 module _ (p : Program) (w : World) (a : Account p w) (sound : HeapFits p w.heap) (framed : PredicatesFit p w.heap)
     (i : ℕ) (f : Frame) (below : List Frame) (stack : (w.threads i).frames ≡ f ∷ below)
@@ -284,18 +285,14 @@ pub fork_keeps : (p : Program) → IsVerifiedThroughout p → RunsFit p → (w :
     → (w.threads i).frames ≡ f ∷ below → f.tasks ≡ Stand (AtAction Fork class span) ∷ rest
     → (mode : Mode) → Kept p (act p w mode i)
 fork_keeps p verified parts w a sound framed i f below class span rest stack is mode =
-    subst (λ fs. Kept p (act_frames p w mode i fs)) (sym stack)
-    (waits_kept p (not (is_held_back w i)) (act_tasks p w i f below mode f.tasks)
-    (by_runs (a.owners.runs i) refl (subst (λ fs. AreRunsOf p w.committed w.heap fs (a.owners.runs i)) stack
-    (a.threads.frames i inside))))
+    by_run p w a i inside f below stack mode by_runs
   where
     inside : i < w.count
     inside = a.threads.live i (ap has_no_frame stack)
 
-    by_runs : (rs : List account.Run) → a.owners.runs i ≡ rs → AreRunsOf p w.committed w.heap (f ∷ below) rs
-        → Kept p (act_tasks p w i f below mode f.tasks)
-    by_runs [] e fits = absurd fits
-    by_runs (r ∷ rs) e fits =
+    by_runs : (r : account.Run) (rs : List account.Run) → a.owners.runs i ≡ r ∷ rs
+        → AreRunsOf p w.committed w.heap (f ∷ below) (r ∷ rs) → Kept p (act_tasks p w i f below mode f.tasks)
+    by_runs r rs e fits =
         subst (λ ts. Kept p (act_tasks p w i f below mode ts)) (sym is)
         (by_test r.taken (nat_eq (object_on f) 0) _ _
         (subst (λ ts. RestNeverFails r.taken (λ maps. ran (truly maps) p r.body r.inner ts f.values r.state)) is fits.0.never)

@@ -48,7 +48,8 @@ use Rattle.account.specs.Running.{ran}
 use Rattle.account.specs.Frames as account
 use Rattle.account.specs.Frames.{IsRunOf, amounts_of}
 use Rattle.account.specs.Objects.{IsTakenFromNothing}
-use Rattle.account.proofs.Beginning.{begun_with, picking_all, before_place}
+use Rattle.account.proofs.Framing.{begun_with, picking_all}
+use Rattle.account.proofs.Beginning.{before_place}
 use Rattle.account_threads.proofs.Left.{less_fits, less_amounts, less_there}
 use Rattle.account_threads.proofs.OfObject.{object_gives, object_met}
 use Rattle.account_threads.proofs.Acting.{object_on, SaysLeft, run_after, acts_on_class, says_after, acted}
@@ -157,7 +158,7 @@ module _ (p : Program) (flags : ℕ → Bool) (heap : Heap) (sound : HeapFits p 
     run_stays class m none no_result declared good never object full typed all scene R most owns =
         picking nothing_taken heap sound.beyond (Object class) (value.Reference object) typed tt _ empty_state
         (IsTakenFromNothing p flags heap (outer_scene object [] []) m.contract.after)
-        (λ met b n. picking_all heap sound.beyond object m.parameters [] all declared no_variables met (b tt)
+        (λ met b n. picking_all heap sound.beyond nothing_taken object m.parameters [] all declared no_variables met (b tt)
         (λ maps. inhale_own (truly maps) m.contract.before (go_on (truly maps) p (OfMethod class m)))
         (IsTakenFromNothing p flags heap (outer_scene object [] []) m.contract.after)
         (λ more low n. made more (formula_gains p flags heap sound framed (before_place p flags heap sound framed class m)

@@ -1,6 +1,6 @@
 -- The label of a join: what the ended `run` left goes to the thread.
 use Rattle.std.proofs.Common.{◌≡◌, ℕ, suc, ◌+◌, ◌≤◌, ◌<◌, Bool, true, false, if◌then◌else◌, ◌&&◌, Some, List, [], ◌∷◌, refl, ap, sym, subst, ◌∙◌, arith}
-use Rattle.std.specs.Prelude.{nat_eq, not, nat_le, drop}
+use Rattle.std.specs.Prelude.{nat_eq, nat_le, drop}
 use Rattle.std.proofs.lemmas.Option.{same_Some}
 use Rattle.pv_base.specs.declared.Name.{Name}
 use Rattle.pv_base.specs.declared.Span.{Span}
@@ -20,8 +20,8 @@ use Rattle.pv_picks.specs.Judge.Rows.{bind_on}
 use Rattle.pv_picks.specs.Judge.Judging.{contract_of}
 use Rattle.pv_picks.specs.Machine.Tasks.{AtAction, Task, Stand}
 use Rattle.pv_picks.specs.Machine.Frames.{Frame, pops, settled, only_now, outer_scene}
-use Rattle.pv_picks.specs.Machine.Worlds.{ThreadState, World, Mode, with_frames, with_state, has_no_frame, is_held_back}
-use Rattle.pv_picks.specs.Machine.Steps.{needs, act_join, act_tasks, act_frames, act}
+use Rattle.pv_picks.specs.Machine.Worlds.{ThreadState, World, Mode, with_frames, with_state, has_no_frame}
+use Rattle.pv_picks.specs.Machine.Steps.{needs, act_join, act_tasks, act}
 use Rattle.pv_picks.proofs.Sames.{naturals_same, resources_same}
 use Rattle.account_formulas.specs.Runs.{truly, RestNeverFails}
 use Rattle.account_formulas.specs.Owning.{IsPlaced, Owns, KeepsOwning}
@@ -37,16 +37,17 @@ use Rattle.account.specs.Accounts.{Account, Kept}
 use Rattle.account.specs.Going.{Goes}
 use Rattle.account.proofs.LocalWork.{settled_goes}
 use Rattle.account.proofs.Sums.{part_of, runs_in_total, total_with_runs, total_with_promise}
-use Rattle.account.proofs.Stepping.{is_not_null}
+use Rattle.account.proofs.Stepping.{by_run, is_not_null}
 use Rattle.account_threads.specs.Parts.{RunsFit}
 use Rattle.account.proofs.Locks.{locks_less, owns_locked}
-use Rattle.account_threads.proofs.OfObject.{by_test, keeps_itself}
+use Rattle.account.proofs.Later.{keeps_same}
+use Rattle.account_threads.proofs.OfObject.{by_test}
 use Rattle.account_threads.proofs.Acting.{object_on, allowed, acts_on_class}
 use Rattle.account_threads.proofs.Joining.{JoinGoes, without_token, joins_go}
 use Rattle.account_threads.proofs.Going.{families_go}
 use Rattle.account_threads.proofs.Locked.{nothing_of}
 use Rattle.account.proofs.Moving.{Families, families_of, owners_with}
-use Rattle.account_threads.proofs.Families.{role_restated, object_is, object_below, waits_kept}
+use Rattle.account_threads.proofs.Families.{role_restated, object_is, object_below}
 
 -- of a token of another object
 pub other_token : (kind other : Token) (d class : Name) (x y : ℕ) → nat_eq x y ≡ false
@@ -254,18 +255,14 @@ pub join_keeps : (p : Program) (w : World) (a : Account p w) → HeapFits p w.he
     → (w.threads i).frames ≡ f ∷ below → f.tasks ≡ Stand (AtAction Join' class span) ∷ rest
     → (mode : Mode) → Kept p (act p w mode i)
 join_keeps p w a sound framed parts i f below class span rest stack is mode =
-    subst (λ fs. Kept p (act_frames p w mode i fs)) (sym stack)
-    (waits_kept p (not (is_held_back w i)) (act_tasks p w i f below mode f.tasks)
-    (by_runs (a.owners.runs i) refl (subst (λ fs. AreRunsOf p w.committed w.heap fs (a.owners.runs i)) stack
-    (a.threads.frames i inside))))
+    by_run p w a i inside f below stack mode by_runs
   where
     inside : i < w.count
     inside = a.threads.live i (ap has_no_frame stack)
 
-    by_runs : (rs : List account.Run) → a.owners.runs i ≡ rs → AreRunsOf p w.committed w.heap (f ∷ below) rs
-        → Kept p (act_tasks p w i f below mode f.tasks)
-    by_runs [] e fits = absurd fits
-    by_runs (r ∷ rs) e fits =
+    by_runs : (r : account.Run) (rs : List account.Run) → a.owners.runs i ≡ r ∷ rs
+        → AreRunsOf p w.committed w.heap (f ∷ below) (r ∷ rs) → Kept p (act_tasks p w i f below mode f.tasks)
+    by_runs r rs e fits =
         subst (λ ts. Kept p (act_tasks p w i f below mode ts)) (sym is)
         (by_test r.taken (nat_eq (object_on f) 0) _ _
         (subst (λ ts. RestNeverFails r.taken (λ maps. ran (truly maps) p r.body r.inner ts f.values r.state)) is fits.0.never)
@@ -312,7 +309,7 @@ join_keeps p w a sound framed parts i f below class span rest stack is mode =
             owns : Owns p w.committed (only_now w.heap) (outer_scene (object_on f) [] []) named.0.contract.after
                 (a.owners.promise (object_on f))
             owns = a.objects.promises (object_on f) class named.0 there class_is named.1 at w.heap
-                (keeps_itself (a.owners.promise (object_on f)) w.heap)
+                (keeps_same (a.owners.promise (object_on f)) w.heap)
 
             both : (q : Resource) → all_of (r ∷ rs) q + a.owners.promise (object_on f) q
                 ≤ total a.owners w.count (suc w.heap.count) q

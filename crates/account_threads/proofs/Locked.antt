@@ -1,6 +1,6 @@
 -- The label of a lock: what the free lock guards goes to the thread.
 use Rattle.std.proofs.Common.{◌≡◌, ℕ, zero, suc, ◌+◌, ◌≤◌, ◌<◌, Bool, true, false, if◌then◌else◌, ◌&&◌, Option, Some, None, List, [], ◌∷◌, refl, ap, sym, subst, ◌∙◌, arith}
-use Rattle.std.specs.Prelude.{nat_eq, not, is_none, drop}
+use Rattle.std.specs.Prelude.{nat_eq, is_none, drop}
 use Rattle.std.proofs.lemmas.Option.{none-some}
 use Rattle.pv_base.specs.declared.Name.{Name}
 use Rattle.pv_base.specs.declared.Span.{Span}
@@ -20,8 +20,8 @@ use Rattle.pv_picks.specs.Judge.Rows.{bind_on}
 use Rattle.pv_picks.specs.Judge.Judging.{formula_of}
 use Rattle.pv_picks.specs.Machine.Tasks.{AtAction, Task, Stand}
 use Rattle.pv_picks.specs.Machine.Frames.{Frame, pops, settled, only_now, outer_scene}
-use Rattle.pv_picks.specs.Machine.Worlds.{World, Mode, with_frames, with_holder, has_no_frame, is_held_back}
-use Rattle.pv_picks.specs.Machine.Steps.{Result, needs, waits_unless, act_lock, keeps_invariant, act_tasks, act_frames, act}
+use Rattle.pv_picks.specs.Machine.Worlds.{World, Mode, with_frames, with_holder, has_no_frame}
+use Rattle.pv_picks.specs.Machine.Steps.{Result, needs, waits_unless, act_lock, keeps_invariant, act_tasks, act}
 use Rattle.pv_picks.proofs.Sames.{naturals_same, resources_same}
 use Rattle.account_formulas.specs.Runs.{truly, RestNeverFails}
 use Rattle.account_formulas.specs.Owning.{IsPlaced, Owns, KeepsOwning}
@@ -37,15 +37,16 @@ use Rattle.account.specs.Accounts.{Account, Kept}
 use Rattle.account.specs.Going.{Goes}
 use Rattle.account.proofs.LocalWork.{settled_goes}
 use Rattle.account.proofs.Sums.{part_of, total_with_runs, total_with_guard}
-use Rattle.account.proofs.Stepping.{is_not_null}
+use Rattle.account.proofs.Stepping.{by_run, is_not_null}
 use Rattle.account_threads.specs.Parts.{InvariantsFit}
 use Rattle.account.proofs.Locks.{locks_less, owns_locked}
-use Rattle.account_threads.proofs.OfObject.{by_test, keeps_itself, object_met}
+use Rattle.account.proofs.Later.{keeps_same}
+use Rattle.account_threads.proofs.OfObject.{by_test, object_met}
 use Rattle.account_threads.proofs.Acting.{object_on, allowed, acts_on_class}
 use Rattle.account_threads.proofs.Locking.{LockGoes, locks_go}
 use Rattle.account_threads.proofs.Going.{families_go}
 use Rattle.account.proofs.Moving.{Families, families_of, owners_with}
-use Rattle.account_threads.proofs.Families.{object_is, object_below, waits_kept}
+use Rattle.account_threads.proofs.Families.{object_is, object_below}
 
 pub nothing_of : (n : ℕ) → (1 ≤ n → ⊥) → n ≡ 0
 nothing_of zero h = refl
@@ -224,10 +225,7 @@ pub lock_keeps : (p : Program) (w : World) (a : Account p w) → HeapFits p w.he
     → (w.threads i).frames ≡ f ∷ below → f.tasks ≡ Stand (AtAction Lock class span) ∷ rest
     → (mode : Mode) → Kept p (act p w mode i)
 lock_keeps p w a sound framed parts i f below class span rest stack is mode =
-    subst (λ fs. Kept p (act_frames p w mode i fs)) (sym stack)
-    (waits_kept p (not (is_held_back w i)) (act_tasks p w i f below mode f.tasks)
-    (by_runs (a.owners.runs i) refl (subst (λ fs. AreRunsOf p w.committed w.heap fs (a.owners.runs i)) stack
-    (a.threads.frames i inside))))
+    by_run p w a i inside f below stack mode by_runs
   where
     inside : i < w.count
     inside = a.threads.live i (ap has_no_frame stack)
@@ -236,10 +234,9 @@ lock_keeps p w a sound framed parts i f below class span rest stack is mode =
     next : World
     next = with_holder (with_frames w i (settled (pops 1 f rest) ∷ below)) (object_on f) (Some i)
 
-    by_runs : (rs : List account.Run) → a.owners.runs i ≡ rs → AreRunsOf p w.committed w.heap (f ∷ below) rs
-        → Kept p (act_tasks p w i f below mode f.tasks)
-    by_runs [] e fits = absurd fits
-    by_runs (r ∷ rs) e fits =
+    by_runs : (r : account.Run) (rs : List account.Run) → a.owners.runs i ≡ r ∷ rs
+        → AreRunsOf p w.committed w.heap (f ∷ below) (r ∷ rs) → Kept p (act_tasks p w i f below mode f.tasks)
+    by_runs r rs e fits =
         subst (λ ts. Kept p (act_tasks p w i f below mode ts)) (sym is)
         (by_test r.taken (nat_eq (object_on f) 0) _ _
         (subst (λ ts. RestNeverFails r.taken (λ maps. ran (truly maps) p r.body r.inner ts f.values r.state)) is fits.0.never)
@@ -281,7 +278,7 @@ lock_keeps p w a sound framed parts i f below class span rest stack is mode =
             owns : Owns p w.committed (only_now w.heap) (outer_scene (object_on f) [] []) named.0
                 (a.owners.guard (object_on f))
             owns = a.objects.guards (object_on f) class named.0 there class_is named.1 flag held w.heap
-                (keeps_itself (a.owners.guard (object_on f)) w.heap)
+                (keeps_same (a.owners.guard (object_on f)) w.heap)
 
             met : IsMet (only_now w.heap) (outer_scene (object_on f) [] []) named.0
             met = object_met p w.committed w.heap sound class (object_on f) named.0 (parts.good class named.0 named.1)

@@ -38,10 +38,6 @@ use Rattle.account_threads.specs.Parts.{object_state, InvariantsFit}
 abbrev pub nothing_known : Contents
 nothing_known r = None
 
--- the heap goes on to itself
-pub keeps_itself : (R : Amounts) (heap : Heap) → KeepsHeld R heap heap
-keeps_itself R heap = record { placed = λ q is. is; kept = λ q v m is. is; lengths = λ a n is. is }
-
 -- a test that doesn't look at picks
 pub by_test : (taken : Taken) {G : Type 0} (b : Bool) (x y : Maps → Judged)
     → RestNeverFails taken (λ maps. if b then x maps else y maps)

@@ -1,6 +1,6 @@
 -- The label of an unlock: what the lock invariant asks for goes from the thread to the lock.
 use Rattle.std.proofs.Common.{◌≡◌, ℕ, suc, ◌+◌, ◌≤◌, ◌<◌, Bool, true, false, if◌then◌else◌, Some, None, List, [], ◌∷◌, refl, ap, sym, subst, ◌∙◌, arith}
-use Rattle.std.specs.Prelude.{nat_eq, not}
+use Rattle.std.specs.Prelude.{nat_eq}
 use Rattle.std.proofs.lemmas.Option.{same_Some}
 use Rattle.pv_base.specs.declared.Name.{Name}
 use Rattle.pv_base.specs.declared.Span.{Span}
@@ -12,8 +12,8 @@ use Rattle.pv_picks.specs.Formulas.Meeting.{found_met}
 use Rattle.pv_picks.specs.Judge.States.{Resource, OfLock}
 use Rattle.pv_picks.specs.Machine.Tasks.{AtAction, Task, Stand}
 use Rattle.pv_picks.specs.Machine.Frames.{Frame, pops, settled, outer_scene}
-use Rattle.pv_picks.specs.Machine.Worlds.{World, Mode, with_frames, with_holder, has_no_frame, is_held_back}
-use Rattle.pv_picks.specs.Machine.Steps.{Result, needs, act_unlock, is_own, keeps_invariant, act_tasks, act_frames, act}
+use Rattle.pv_picks.specs.Machine.Worlds.{World, Mode, with_frames, with_holder, has_no_frame}
+use Rattle.pv_picks.specs.Machine.Steps.{Result, needs, act_unlock, is_own, keeps_invariant, act_tasks, act}
 use Rattle.pv_picks.proofs.Sames.{naturals_same}
 use Rattle.account_formulas.specs.Owning.{KeepsOwning}
 use Rattle.account_formulas.specs.Growing.{HeapFits}
@@ -26,15 +26,15 @@ use Rattle.account.specs.Objects.{ObjectsFit}
 use Rattle.account.specs.Accounts.{Account, Kept}
 use Rattle.account.specs.Going.{Goes}
 use Rattle.account.proofs.LocalWork.{settled_goes}
-use Rattle.account.proofs.Sums.{sums_less, runs_in_total, total_with_runs, total_with_guard}
-use Rattle.account.proofs.Stepping.{is_not_null}
+use Rattle.account.proofs.Sums.{sums_less, parts_of, runs_in_total, total_with_runs, total_with_guard}
+use Rattle.account.proofs.Stepping.{own_most, by_run, is_not_null}
 use Rattle.account_threads.specs.Parts.{InvariantsFit}
 use Rattle.account.proofs.Locks.{locks_less}
 use Rattle.account_threads.proofs.Acting.{object_on, allowed, acts_on_class}
 use Rattle.account_threads.proofs.Unlocking.{UnlockGoes, unlocks_go}
 use Rattle.account_threads.proofs.Going.{families_go}
 use Rattle.account.proofs.Moving.{Families, families_of, owners_with}
-use Rattle.account_threads.proofs.Families.{two_of, own_most, object_is, object_below, waits_kept}
+use Rattle.account_threads.proofs.Families.{object_is, object_below}
 
 module _ (p : Program) (w : World) (a : Account p w) (sound : HeapFits p w.heap) (framed : PredicatesFit p w.heap)
     (parts : InvariantsFit p w.heap) (i : ℕ) (f : Frame) (below : List Frame) (stack : (w.threads i).frames ≡ f ∷ below)
@@ -85,7 +85,7 @@ module _ (p : Program) (w : World) (a : Account p w) (sound : HeapFits p w.heap)
       let most = own_most p w a i inside (r ∷ rs) has_runs (OfLock class (object_on f)) in
       let work = done.less (OfLock class (object_on f)) in let free = g.free in omega (arith, most, work, free, more)
   none_left j k false e more =
-      let two = two_of (λ x. at_thread a.owners x (OfLock class (object_on f))) w.count i j inside k e in
+      let two = parts_of (λ x. at_thread a.owners x (OfLock class (object_on f))) w.count i j inside k e in
       let own = ap (λ x. all_of x (OfLock class (object_on f))) has_runs in
       let most = a.sums.most (OfLock class (object_on f)) in let much = g.much in omega (arith, two, own, most, much, more)
 
@@ -161,10 +161,7 @@ pub unlock_keeps : (p : Program) (w : World) (a : Account p w) → HeapFits p w.
     → (w.threads i).frames ≡ f ∷ below → f.tasks ≡ Stand (AtAction Unlock class span) ∷ rest
     → (mode : Mode) → Kept p (act p w mode i)
 unlock_keeps p w a sound framed parts i f below class span rest stack is mode =
-    subst (λ fs. Kept p (act_frames p w mode i fs)) (sym stack)
-    (waits_kept p (not (is_held_back w i)) (act_tasks p w i f below mode f.tasks)
-    (by_runs (a.owners.runs i) refl (subst (λ fs. AreRunsOf p w.committed w.heap fs (a.owners.runs i)) stack
-    (a.threads.frames i inside))))
+    by_run p w a i inside f below stack mode by_runs
   where
     inside : i < w.count
     inside = a.threads.live i (ap has_no_frame stack)
@@ -173,10 +170,9 @@ unlock_keeps p w a sound framed parts i f below class span rest stack is mode =
     next : World
     next = with_holder (with_frames w i (settled (pops 1 f rest) ∷ below)) (object_on f) None
 
-    by_runs : (rs : List account.Run) → a.owners.runs i ≡ rs → AreRunsOf p w.committed w.heap (f ∷ below) rs
-        → Kept p (act_tasks p w i f below mode f.tasks)
-    by_runs [] e fits = absurd fits
-    by_runs (r ∷ rs) e fits =
+    by_runs : (r : account.Run) (rs : List account.Run) → a.owners.runs i ≡ r ∷ rs
+        → AreRunsOf p w.committed w.heap (f ∷ below) (r ∷ rs) → Kept p (act_tasks p w i f below mode f.tasks)
+    by_runs r rs e fits =
         let named = allowed p w.committed w.heap f r fits.0 Unlock class span rest is in
         let g = unlocks_go p w.committed w.heap sound framed parts f r fits.0
         (λ q. let most = own_most p w a i inside (r ∷ rs) e q in omega (arith, most)) class span rest is named.0 named.1 in

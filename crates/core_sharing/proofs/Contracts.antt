@@ -24,6 +24,7 @@ use Rattle.pv_picks.specs.Elaborating.Expressions.{together, core_of_formula, co
 use Rattle.pv_picks.specs.Elaborating.Statements.{formulas_at, core_of_formulas, core_of_all_items, core_of_shared}
 use Rattle.core_trees.proofs.Clean.{Clean, no_first, no_second}
 use Rattle.core_trees.proofs.Agreeing.{or_else, with_name, declared_new, declared_more}
+use Rattle.core_trees.proofs.ConfiningStmts.{filter_all}
 use Rattle.core_sharing.specs.Forms.{SameItems.same_nothing}
 use Rattle.core_sharing.proofs.Making.{AreMade, SharedIsMade, made_together}
 use Rattle.core_trees.proofs.Shapes.{type_of, IsPosition}
@@ -82,16 +83,6 @@ clauses_same name a v (c ∷ []) h =
     (sym (together_none (core_of_items name a v c.formula))) h.0
 clauses_same name a v (c ∷ d ∷ cs) h =
     made_together name _ _ _ _ h.0 (clauses_same name a v (d ∷ cs) h.1)
-
-filtered : {A : Type 0} (P : A → Type 0) (b : Bool) (x : A) (xs : List A) → P x → AllByRecursion P xs
-    → AllByRecursion P (cond b (x ∷ xs) xs)
-filtered P true x xs h k = (h, k)
-filtered P false x xs h k = k
-
-filter_all : {A : Type 0} (P : A → Type 0) (stands : A → Bool) (xs : List A) → AllByRecursion P xs
-    → AllByRecursion P (filter stands xs)
-filter_all P stands [] h = tt
-filter_all P stands (x ∷ xs) h = filtered P (stands x) x (filter stands xs) h.0 (filter_all P stands xs h.1)
 
 clauses_at : (name : Name) (a : Environment) (v : Visible) (stands : ClauseKind → Bool) (cs : List Clause)
     → AllByRecursion (ClauseSame name a v) cs

@@ -158,6 +158,12 @@ module _ (table : List Entry) (before before' : Cells) (scene : Scene) (name : N
   abbrev olds_of : Maps → Values
   olds_of maps = values_in table before before' maps before
 
+  now : (s : State) (maps m : Maps) → m ≡ maps → (q : Resource) → option_map (content m) (cells_of s q) ≡ nows_of maps s q
+  now s maps m is q = reads_itself table before before' s maps m is q
+
+  old : (maps m : Maps) → m ≡ maps → (q : Resource) → option_map (content m) (before q) ≡ olds_of maps q
+  old maps m is q = ap (λ (x : Maps). option_map (content x) (before q)) is
+
   -- The fact first
 
   fact_then : (next next' : Run) → Meeting next next' → Meeting (fact before next) (looked before' next')
@@ -180,12 +186,6 @@ module _ (table : List Entry) (before before' : Cells) (scene : Scene) (name : N
               sym (endings_same (nows_of maps s) (olds_of maps) _ _ (passes_one (nows_of maps s) (olds_of maps) lengths)) ∙ same,
         );
       })
-    where
-      now : (s : State) (maps m : Maps) → m ≡ maps → (q : Resource) → option_map (content m) (cells_of s q) ≡ nows_of maps s q
-      now s maps m is q = reads_itself table before before' s maps m is q
-
-      old : (maps m : Maps) → m ≡ maps → (q : Resource) → option_map (content m) (before q) ≡ olds_of maps q
-      old maps m is q = ap (λ (x : Maps). option_map (content x) (before q)) is
 
   pub fact_first : (next next' : Run) → Meeting next next'
       → Meeting (fact before next) (λ m. inhale_repeated (judging m table) (bound scene before') name e r (next' m))
@@ -221,12 +221,6 @@ module _ (table : List Entry) (before before' : Cells) (scene : Scene) (name : N
               endings_same (nows_of maps s) (olds_of maps) _ _ (passes_one (nows_of maps s) (olds_of maps) lengths) ∙ same,
         );
       })
-    where
-      now : (s : State) (maps m : Maps) → m ≡ maps → (q : Resource) → option_map (content m) (cells_of s q) ≡ nows_of maps s q
-      now s maps m is q = reads_itself table before before' s maps m is q
-
-      old : (maps m : Maps) → m ≡ maps → (q : Resource) → option_map (content m) (before q) ≡ olds_of maps q
-      old maps m is q = ap (λ (x : Maps). option_map (content x) (before q)) is
 
   known_then : (next next' : Run) → Meeting next next' → Meeting (known before next) (fact before' next')
   known_then next next' meets =
@@ -242,12 +236,6 @@ module _ (table : List Entry) (before before' : Cells) (scene : Scene) (name : N
         match = λ x. matched (nows_of maps s) (olds_of maps) x;
       })
     where
-      now : (s : State) (maps m : Maps) → m ≡ maps → (q : Resource) → option_map (content m) (cells_of s q) ≡ nows_of maps s q
-      now s maps m is q = reads_itself table before before' s maps m is q
-
-      old : (maps m : Maps) → m ≡ maps → (q : Resource) → option_map (content m) (before q) ≡ olds_of maps q
-      old maps m is q = ap (λ (x : Maps). option_map (content x) (before q)) is
-
       never : (b : Bool) (span : Span) → if_goes b ≡ Fails span → ⊥
       never true span is = cc is
       never false span is = cc is

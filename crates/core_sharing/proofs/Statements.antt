@@ -29,6 +29,7 @@ use Rattle.core_trees.proofs.Clean.{Clean, unless_holds, if_fails, no_first, no_
 use Rattle.core_trees.proofs.Blocks.{Blocked, blocked_with}
 use Rattle.core_trees.proofs.StmtLayers.{ShapedWith, ShapedLayer, ShapedHas, ShapedLayerStep, shaped_induction, elaborations, parts_in, shapes_of}
 use Rattle.core_trees.proofs.ConfiningStmts.{Placed}
+use Rattle.core_trees.proofs.ConfiningStmts.{still_placed}
 use Rattle.core_sharing.specs.Keeping.{SaidOfBarrier, SaidInStatement, SaidInBlock}
 use Rattle.core_sharing.proofs.Making.{SharedIsMade}
 use Rattle.core_trees.proofs.Shapes.{IsPosition}
@@ -57,12 +58,6 @@ stands_with position v how name type no_block h =
 numbered_inside : (position : Option Name) (v : Visible) → Numbered v position → Numbered (entered v) position
 numbered_inside None v h = tt
 numbered_inside (Some name) v h = h
-
-still_placed : (position : Option Name) (environment inner : shapes.Environment) (site further : Site) → inner.block
-    ≡ environment.block
-    → further.position ≡ site.position → Placed position environment site → Placed position inner further
-still_placed None environment inner site further same there h = tt
-still_placed (Some name) environment inner site further same there h = (same ∙ h.0, there ∙ h.1)
 
 -- The laws of a statement
 

@@ -100,7 +100,7 @@ filtered : {A : Type 0} (P : A → Type 0) (b : Bool) (x : A) (xs : List A) → 
 filtered P true x xs h k = (h, k)
 filtered P false x xs h k = k
 
-filter_all : {A : Type 0} (P : A → Type 0) (stands : A → Bool) (xs : List A) → AllByRecursion P xs
+pub filter_all : {A : Type 0} (P : A → Type 0) (stands : A → Bool) (xs : List A) → AllByRecursion P xs
     → AllByRecursion P (filter stands xs)
 filter_all P stands [] h = tt
 filter_all P stands (x ∷ xs) h = filtered P (stands x) x (filter stands xs) h.0 (filter_all P stands xs h.1)
@@ -229,7 +229,7 @@ silent h =
       sent = λ stand there clean looped loop agree. tt;
     }
 
-still_placed : (position : Option Name) (environment inner : shapes.Environment) (site further : Site) → inner.block
+pub still_placed : (position : Option Name) (environment inner : shapes.Environment) (site further : Site) → inner.block
     ≡ environment.block
     → further.position ≡ site.position → Placed position environment site → Placed position inner further
 still_placed None environment inner site further same there h = tt

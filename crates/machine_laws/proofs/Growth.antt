@@ -60,7 +60,8 @@ grows_trans x y = let l = x.threads in let m = y.threads in let k = x.blocks in 
 elsewhere : {A : Type 0} (n : ℕ) (x : A) (f : ℕ → A) (j : ℕ) → nat_eq j n ≡ false → at_number n x f j ≡ f j
 elsewhere n x f j h = rw h refl
 
-above : (j n : ℕ) → j < n → nat_eq j n ≡ false
+-- what is below a number is another one
+pub above : (j n : ℕ) → j < n → nat_eq j n ≡ false
 above j n l = go (nat_eq j n) refl
   where
     go : (b : Bool) → nat_eq j n ≡ b → nat_eq j n ≡ false

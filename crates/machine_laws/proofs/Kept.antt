@@ -190,11 +190,11 @@ arguments_fit heap xs variables (x ∷ ps) [] fit h = absurd h
 arguments_fit heap xs variables (x ∷ ps) (v ∷ vs) fit h =
     arguments_fit heap (x ∷ xs) (with_variable variables x.0 v) ps vs (new-fits heap xs variables x.0 x.1 v h.0 fit) h.1
 
-first_result : (heap : Heap) (r : Option PvType) → ResultFits heap (Some (unwrap_or r Null)) (is_none r) no_value
+pub first_result : (heap : Heap) (r : Option PvType) → ResultFits heap (Some (unwrap_or r Null)) (is_none r) no_value
 first_result heap None g type e = subst (λ t. HasType heap t no_value) (same_Some Null type e) tt
 first_result heap (Some t) g type e = absurd (cc)
 
-result_given : (r : Option PvType) (b : Bool) → ((type : PvType) → r ≡ Some type → b ≡ true) → (b || is_none r) ≡ true
+pub result_given : (r : Option PvType) (b : Bool) → ((type : PvType) → r ≡ Some type → b ≡ true) → (b || is_none r) ≡ true
 result_given None true f = refl
 result_given None false f = refl
 result_given (Some t) true f = refl

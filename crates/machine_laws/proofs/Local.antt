@@ -8,6 +8,7 @@ use Rattle.pv_ast.specs.declared.PvType.{PvType}
 use Rattle.pv_ast.specs.declared.PvType.TheVariants.{Int, Truth, Object, IntArray, TruthArray, Null}
 use Rattle.pv_values.specs.declared.value.Value.{Value}
 use Rattle.pv_values.specs.declared.value.Value.TheVariants as value
+use Rattle.pv_picks.proofs.Sames.{names_same}
 use Rattle.pv_picks.specs.declared.check.Check.TheVariants as check
 use Rattle.pv_picks.specs.Plain.Core.{Expression, Constant, This, Result, Variable, Field, Element, Length, Not, Compute, Compare, Equal, And, Or, Implies, Old, Parameter, Block, Stop, Then}
 use Rattle.pv_picks.specs.Formulas.Heaps.{Heap}
@@ -71,13 +72,13 @@ or_right : (a b : Bool) → b ≡ true → (a || b) ≡ true
 or_right true b h = refl
 or_right false b h = h
 
-moved_over : (s b given : Bool) → ((s || b) || given) ≡ true → (b || (s || given)) ≡ true
+pub moved_over : (s b given : Bool) → ((s || b) || given) ≡ true → (b || (s || given)) ≡ true
 moved_over true true given h = refl
 moved_over true false given h = refl
 moved_over false true given h = refl
 moved_over false false given h = h
 
-one_of_both : (c : Bool) (a b : Block) (given : Bool) → ((gives a && gives b) || given) ≡ true → (gives (cond c a b) || given)
+pub one_of_both : (c : Bool) (a b : Block) (given : Bool) → ((gives a && gives b) || given) ≡ true → (gives (cond c a b) || given)
     ≡ true
 one_of_both true a b given h = left (gives a) (gives b) given h
   where
@@ -101,9 +102,6 @@ chosen_expression : (c : Bool) (h : Home) (xs : List Parameter) (a b : Expressio
 chosen_expression true h xs a b type x y = x
 chosen_expression false h xs a b type x y = y
 
-name_same : (a b : Name) → nat_eq a.0 b.0 ≡ true → a ≡ b
-name_same a b h = let e : a.0 ≡ b.0 = eqb-true a.0 b.0 h in ap (λ n. record { 0 = n }) e
-
 -- a variable gets a value of its type
 pub put-fits : (heap : Heap) (xs : List Parameter) (variables : Variables) (name : Name) (type : PvType) (v : Value)
     → type_in xs name ≡ Some type
@@ -112,7 +110,7 @@ put-fits heap xs variables name type v e k fit other t f = go (nat_eq other.0 na
   where
     go : (b : Bool) → nat_eq other.0 name.0 ≡ b → HasType heap t (cond b v (variables other.0))
     go true s =
-        let same : other ≡ name = name_same other name s in
+        let same : other ≡ name = names_same other name s in
         subst (λ u. HasType heap u v) (same_Some type t (sym e ∙ (ap (type_in xs) (sym same) ∙ f))) k
     go false s = fit other t f
 
@@ -126,13 +124,13 @@ new-fits heap xs variables name type v k fit other t f = go (nat_eq other.0 name
     go true s = subst (λ u. HasType heap u v) (same_Some type t s) k
     go false s = fit other t s
 
-more_within : (outer xs : List Parameter) (name : Name) (type : PvType) → type_in xs name ≡ None → IsWithin outer xs
+pub more_within : (outer xs : List Parameter) (name : Name) (type : PvType) → type_in xs name ≡ None → IsWithin outer xs
     → IsWithin outer ((name, type) ∷ xs)
 more_within outer xs name type new within other t e = go (nat_eq other.0 name.0) refl
   where
     go : (b : Bool) → nat_eq other.0 name.0 ≡ b → cond b (Some type) (type_in xs other) ≡ Some t
     go true s =
-        let same : other ≡ name = name_same other name s in
+        let same : other ≡ name = names_same other name s in
         absurd (none-some t (sym new ∙ (ap (type_in xs) (sym same) ∙ within other t e)))
     go false s = within other t e
 

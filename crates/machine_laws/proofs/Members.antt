@@ -12,7 +12,7 @@ use Rattle.pv_picks.specs.Machine.Starts.{Start, frame_of_start, no_thread, firs
 use Rattle.pv_picks.specs.Machine.Safety.{IsReached}
 use Rattle.machine_laws.specs.Members.{BlocksHaveMembers}
 use Rattle.machine_laws.specs.Growth.{IsSameBlock}
-use Rattle.machine_laws.proofs.Growth.{same_self, same_role, kept_block}
+use Rattle.machine_laws.proofs.Growth.{above, same_self, same_role, kept_block}
 use Rattle.machine_laws.proofs.Changes.{IsKeptBy, reached_keeps}
 
 -- blocks that are the same but for their messages have the same members
@@ -23,13 +23,6 @@ same_members : (a b : OpenBlock) → IsSameBlock a b → (j : ℕ) → is_member
 same_members a b same j =
     ap (λ n. nat_le n j && nat_lt j (n + member_count b)) same.first
     ∙ ap (λ n. nat_le a.first j && nat_lt j (a.first + n)) (same_count a b same)
-
-not_same : (m n : ℕ) → m < n → nat_eq m n ≡ false
-not_same m n less = by (nat_eq m n) refl
-  where
-    by : (b : Bool) → nat_eq m n ≡ b → b ≡ false
-    by true e = let same = eqb-true m n e in absurd (omega (arith, same, less))
-    by false e = refl
 
 -- another number below the next is below this one
 pub below_other : (b n : ℕ) → nat_eq b n ≡ false → b < suc n → b < n
@@ -88,7 +81,7 @@ module _ (w : World) (h : BlocksHaveMembers w) where
       blocks = λ b less. let k = h.blocks b less in record {
         counted = let c = k.counted in omega (arith, c);
         roles = λ j is.
-            ap (λ x. (if x then t else (with_frames w i frames).threads j).role) (not_same j w.count (is_there b less j is))
+            ap (λ x. (if x then t else (with_frames w i frames).threads j).role) (above j w.count (is_there b less j is))
             ∙ same_role w i frames j ∙ k.roles j is;
       };
       members = λ j b position is. by j b position (nat_eq j w.count) is;
@@ -157,7 +150,7 @@ module _ (w : World) (h : BlocksHaveMembers w) where
         member j b position false e is =
             let k = h.members j b position (sym (same_role w i frames j) ∙ is) in (
               let less = k.0 in omega (arith, less),
-              ap (λ x. is_member (one_of b x) j) (not_same b w.block_count k.0) ∙ k.1,
+              ap (λ x. is_member (one_of b x) j) (above b w.block_count k.0) ∙ k.1,
             )
 
     left : (block : OpenBlock) → BlocksHaveMembers (all_behind w block)

@@ -14,6 +14,7 @@ use Rattle.pv_picks.specs.Machine.Steps.{Result, needs_met, waits_unless, goes, 
 use Rattle.pv_picks.specs.Machine.Safety.{Event, world_after, happens, run_events}
 use Rattle.pv_picks.specs.Machine.LoopRuns.{opens_loop, frames_at_loop, AreBetween, StandsAtLoop, IsLoopRun}
 use Rattle.machine_laws.specs.Growth.{Grows}
+use Rattle.machine_laws.proofs.Standing.{both_true}
 use Rattle.machine_laws.proofs.Leads.{act-leads, world_after-grows}
 
 -- the members of an ordered block, from one number to below another
@@ -39,10 +40,6 @@ in_order_grows lo hi b v u o g =
       member = λ j x y. let found = o.member j x y in
           (found.0, g.roles j (omega arith) ∙ found.1);
     }
-
-both_true : (a b : Bool) → (a && b) ≡ true → (a ≡ true) × (b ≡ true)
-both_true true b h = (refl, h)
-both_true false b h = absurd (cc)
 
 not_false : (a : Bool) → not a ≡ false → a ≡ true
 not_false true h = refl

@@ -97,9 +97,10 @@ settled-free f h = settled-keeps (λ (g : Frame). are_free g.tasks ≡ true) (λ
 three : (a b c : Bool) → a ≡ true → b ≡ true → c ≡ true → ((a && b) && c) ≡ true
 three a b c x y z = rw (x, y, z) refl
 
-two_of : (a b : Bool) → (a && b) ≡ true → (a ≡ true) × (b ≡ true)
-two_of true b h = (refl, h)
-two_of false b h = absurd (cc)
+-- of two truths both hold
+pub both_true : (a b : Bool) → (a && b) ≡ true → (a ≡ true) × (b ≡ true)
+both_true true b h = (refl, h)
+both_true false b h = absurd (cc)
 
 pub settled-stands : (f : Frame) (below : List Frame) → are_free f.tasks ≡ true → all_await below ≡ true
     → is_standing (settled f ∷ below) ≡ true
@@ -109,12 +110,12 @@ settled-stands f below h k =
 pub stands-free : (f : Frame) (below : List Frame) → is_standing (f ∷ below) ≡ true → (are_free f.tasks ≡ true)
     × (all_await below ≡ true)
 stands-free f below h =
-    let a = two_of (are_free f.tasks && is_at_rest f) (all_await below) h in
-    let b = two_of (are_free f.tasks) (is_at_rest f) a.0 in (b.0, a.1)
+    let a = both_true (are_free f.tasks && is_at_rest f) (all_await below) h in
+    let b = both_true (are_free f.tasks) (is_at_rest f) a.0 in (b.0, a.1)
 
 pub awaits-two : (f : Frame) (below : List Frame) → all_await (f ∷ below) ≡ true → (await f.tasks ≡ true)
     × (all_await below ≡ true)
-awaits-two f below h = two_of (await f.tasks) (all_await below) h
+awaits-two f below h = both_true (await f.tasks) (all_await below) h
 
 pub drop-free : (ts : List Task) → are_free ts ≡ true → are_free (drop 1 ts) ≡ true
 drop-free [] h = h

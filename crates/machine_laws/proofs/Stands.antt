@@ -6,6 +6,7 @@ use Rattle.pv_base.specs.declared.Span.{Span}
 use Rattle.pv_ast.specs.declared.PvType.{PvType}
 use Rattle.pv_values.specs.declared.value.Value.{Value}
 use Rattle.pv_values.specs.declared.value.Location.{Location}
+use Rattle.pv_picks.proofs.Sames.{front}
 use Rattle.pv_picks.specs.declared.check.Check.{Check}
 use Rattle.pv_picks.specs.Plain.Core.{Formula, Action, Fork, Join', Lock, Unlock, Commit, Message, Barrier, Team, Block, Predicate, Method, Program}
 use Rattle.pv_picks.specs.Plain.Members.{predicate_named, method_named, run_of, invariant_of}
@@ -36,10 +37,6 @@ StandsOn (Result.Wrong check span) = Unit {0}
 not_both : (a : Bool) → (a && false) ≡ true → ⊥
 not_both true h = absurd (cc)
 not_both false h = absurd (cc)
-
-first_of : (a b : Bool) → (a && b) ≡ true → a ≡ true
-first_of true b h = refl
-first_of false b h = absurd (cc)
 
 needs_stand : (b : Bool) (named : Check) (span : Span) (r : Result) → StandsOn r → StandsOn (needs b named span r)
 needs_stand true named span r h = h
@@ -374,7 +371,7 @@ label_of_standing : (role : Role) (fs : List Frame) → is_standing fs ≡ true 
     → IsSome (label_of_frames role fs)
 label_of_standing role [] h k = absurd (cc)
 label_of_standing role (f ∷ below) h k =
-    label_of_free role f f.tasks below (first_of (are_free f.tasks && are_at_rest f.tasks) (all_await below) h)
+    label_of_free role f f.tasks below (front (are_free f.tasks && are_at_rest f.tasks) (all_await below) h)
 
 -- a thread that hasn't ended has a next label
 pub reached-label : (p : Program) (w : World) → IsReached p w → (j : ℕ) → has_ended w j ≡ false → IsSome (next (w.threads j))

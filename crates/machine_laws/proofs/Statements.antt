@@ -16,7 +16,7 @@ pub retyped : {h : Home} {xs : List Parameter} {given : Bool} {stack : List PvTy
     → TasksFit h xs given (a ∷ stack) rest → TasksFit h xs given (b ∷ stack) rest
 retyped {h} {xs} {given} {stack} {rest} a b e d = subst (λ t. TasksFit h xs given (t ∷ stack) rest) e d
 
-as_many : (h : Home) (xs : List Parameter) (es : List Expression) (types : List PvType) → AreOf h xs es types → length types
+pub as_many : (h : Home) (xs : List Parameter) (es : List Expression) (types : List PvType) → AreOf h xs es types → length types
     ≡ length es
 as_many h xs [] [] a = refl
 as_many h xs [] (type ∷ types) a = absurd a

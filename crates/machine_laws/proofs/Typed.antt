@@ -16,6 +16,7 @@ use Rattle.pv_values.specs.Heaps.{Things, Fields, field_value, field_in, element
 use Rattle.pv_base.specs.Names.{same_name}
 use Rattle.pv_values.specs.Typing as typing
 use Rattle.pv_values.specs.Typing.{Kind, numbers, truths, objects, int_arrays, truth_arrays, nulls, is_number, is_truth, Refers, IsWellTyped}
+use Rattle.pv_picks.proofs.Sames.{front, back, names_same, numbers_same}
 use Rattle.pv_picks.specs.Plain.Core.{Parameter, Program}
 use Rattle.pv_picks.specs.Plain.Members.{first_that, type_in, fields_of}
 use Rattle.pv_picks.specs.Formulas.Values.{default_of}
@@ -108,14 +109,6 @@ kind_kept g (Some nulls) v h = h
 
 -- Writes.
 
-first_of_both : (a b : Bool) → (a && b) ≡ true → a ≡ true
-first_of_both true b h = refl
-first_of_both false b h = h
-
-second_of_both : (a b : Bool) → (a && b) ≡ true → b ≡ true
-second_of_both true b h = h
-second_of_both false b h = absurd (cc)
-
 -- what is read after a write is what was written, or what was read before
 read_by : (b : Bool) (value v : Value) (before : Option Value) (P : Type 0) → cond b (Some value) before ≡ Some v
     → (b ≡ true → value ≡ v → P) → (before ≡ Some v → P) → P
@@ -125,9 +118,6 @@ read_by false value v before P e f g = g e
 holds_value : (test : Value → Bool) (a b : Value) → a ≡ b → test a ≡ true → test b ≡ true
 holds_value test a b e h = ap test (sym e) ∙ h
 
-name_same : (a b : Name) → same_name a b ≡ true → a ≡ b
-name_same a b h = let e : a.0 ≡ b.0 = eqb-true a.0 b.0 h in ap (λ n. record { 0 = n }) e
-
 -- an array whose elements pass a test, once a value that passes it was written
 array_written : (test : Value → Bool) (old : Heap) (location : Location) (value : Value) (array : ℕ)
     → ((b : ℕ) (j : ℤ) → location ≡ Cell b j → array ≡ b → test value ≡ true) → HoldsOnly test old array
@@ -136,7 +126,7 @@ array_written test old (Field object name) value array fits h index v e = h inde
 array_written test old (Cell b j) value array fits h index v e =
     read_by (same_location (Cell array index) (Cell b j)) value v (old.value (Cell array index)) (test v ≡ true) e
     (λ t k. holds_value test value v k
-    (fits b j refl (eqb-true array b (first_of_both (nat_eq array b) (same_number index j) t))))
+    (fits b j refl (eqb-true array b (front (nat_eq array b) (same_number index j) t))))
     (h index v)
 
 -- no value is a number and a truth value
@@ -180,22 +170,16 @@ apart true x y f h e =
     absurd (cc)
 apart false x y f h e = refl
 
-pub number_same : (a b : ℤ) → same_number a b ≡ true → a ≡ b
-number_same (pos a) (pos b) h = ap pos (grind (arith, nat_tests, h))
-number_same (pos a) (negsuc b) h = absurd (cc)
-number_same (negsuc a) (pos b) h = absurd (cc)
-number_same (negsuc a) (negsuc b) h = ap negsuc (grind (arith, nat_tests, h))
-
 pub location_same : (a b : Location) → same_location a b ≡ true → a ≡ b
 location_same (Field a f) (Field b g) h =
-    let s : a ≡ b = eqb-true a b (first_of_both (nat_eq a b) (same_name f g) h) in
-    let t : f ≡ g = name_same f g (second_of_both (nat_eq a b) (same_name f g) h) in
+    let s : a ≡ b = eqb-true a b (front (nat_eq a b) (same_name f g) h) in
+    let t : f ≡ g = names_same f g (back (nat_eq a b) (same_name f g) h) in
     cc
 location_same (Field a f) (Cell b j) h = absurd (cc)
 location_same (Cell a i) (Field b g) h = absurd (cc)
 location_same (Cell a i) (Cell b j) h =
-    let s : a ≡ b = eqb-true a b (first_of_both (nat_eq a b) (same_number i j) h) in
-    let t : i ≡ j = number_same i j (second_of_both (nat_eq a b) (same_number i j) h) in
+    let s : a ≡ b = eqb-true a b (front (nat_eq a b) (same_number i j) h) in
+    let t : i ≡ j = numbers_same i j (back (nat_eq a b) (same_number i j) h) in
     cc
 
 module _ (kinds : Name → Name → Option Kind) (old : Heap) (location : Location) (v : Value)
@@ -251,8 +235,8 @@ field_written kinds old (Cell b j) value object class name v typed fits c e = ty
 field_written kinds old (Field b f) value object class name v typed fits c e =
     read_by (same_location (Field object name) (Field b f)) value v (old.value (Field object name))
     (HasKindOf old (kinds class name) v) e
-    (λ t k. let at : object ≡ b = eqb-true object b (first_of_both (nat_eq object b) (same_name name f) t) in
-    let named : name ≡ f = name_same name f (second_of_both (nat_eq object b) (same_name name f) t) in
+    (λ t k. let at : object ≡ b = eqb-true object b (front (nat_eq object b) (same_name name f) t) in
+    let named : name ≡ f = names_same name f (back (nat_eq object b) (same_name name f) t) in
     subst (λ x. HasKindOf old (kinds class name) x) k
     (subst (λ x. HasKindOf old (kinds class x) value) (sym named) (fits class (ap old.class (sym at) ∙ c))))
     (typed.fields object class name v c)

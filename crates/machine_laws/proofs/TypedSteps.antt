@@ -26,6 +26,8 @@ use Rattle.pv_picks.specs.Machine.Worlds.{Role, Entry, RunOf, MemberOf, Thread, 
 use Rattle.pv_picks.specs.Machine.Steps.{Result, not_null, is_met_on, called, forked, keeps_invariant, is_own, act_new_object, act_open, act_arrive, act_leave, all_leave, all_behind, frames_behind, frames_leave, tasks_leave, ended, needs, needs_met, waits_unless, goes, read, write, act_length, act_new_array, act_fold, act_call, act_fork, act_join, act_lock, act_unlock, act_commit, act_on, Partner, Somebody, Nobody, receiver_of, sender_of, is_declared, act_send, act_receive, as_member, act_step, act_end, returned, act_tasks, act_frames, act, first_fields}
 use Rattle.machine_laws.specs.HeapSteps.{WhereItGoes}
 use Rattle.pv_picks.specs.Typing.Heaps.{KeepsKinds}
+use Rattle.machine_laws.proofs.Standing.{both_true}
+use Rattle.machine_laws.proofs.Ordered.{each_from-true}
 use Rattle.machine_laws.proofs.Typed.{after-keeps, act-typed}
 use Rattle.pv_picks.specs.Typing.Expressions.{Home, answer_of, IsElement, onto}
 use Rattle.pv_picks.specs.Typing.Blocks.{types_of, gives, inside, BlockFits, MethodFits, ProgramFits}
@@ -54,24 +56,6 @@ waits_fine p false r h = tt
 put_fits : (p : Program) (heap : Heap) (n : ℕ) (t : Thread) (f : ℕ → Thread) → FramesFit p heap t.frames → ThreadsFit p heap f
     → ThreadsFit p heap (at_number n t f)
 put_fits p heap n t f h k j = chosen-fits p heap (nat_eq j n) t (f j) h (k j)
-
-both_true : (a b : Bool) → (a && b) ≡ true → (a ≡ true) × (b ≡ true)
-both_true true b h = (refl, h)
-both_true false b h = absurd (cc)
-
-first_or_above : (test : ℕ → Bool) (first j : ℕ) → test first ≡ true → first ≤ j → (suc first ≤ j → test j ≡ true) → test j ≡ true
-first_or_above test first j here l more = go (nat_lt first j) refl
-  where
-    go : (t : Bool) → nat_lt first j ≡ t → test j ≡ true
-    go true e = let k : first < j = ltb-true first j e in more (omega arith)
-    go false e =
-        let k : j ≤ first = ltb-false first j e in let s : first ≡ j = omega arith in subst (λ (n : ℕ). test n ≡ true) s here
-
-each_true : (test : ℕ → Bool) (first n : ℕ) → each_from test first n ≡ true → (j : ℕ) → first ≤ j → j < first + n → test j ≡ true
-each_true test first zero h j a b = absurd (omega arith)
-each_true test first (suc n) h j a b =
-    let s = both_true (test first) (each_from test (suc first) n) h in
-    first_or_above test first j s.0 a (λ l. each_true test (suc first) n s.1 j l (omega arith))
 
 three_fit : (heap : Heap) (a b c : PvType) (types : List PvType) (vs : List Value) → ValuesFit heap (a ∷ b ∷ c ∷ types) vs
     → ValuesFit heap types (drop 3 vs)
@@ -140,7 +124,7 @@ all_behind_fit p w block place e t j = go (is_member block j) refl
     go true m =
         let s = both_true (nat_le block.first j) (nat_lt j (block.first + member_count block)) m in
         behind_fits p w.heap place (w.threads j).frames
-        (each_true (λ k. frames_leave place (w.threads k).frames) block.first (member_count block) e j
+        (each_from-true (λ k. frames_leave place (w.threads k).frames) block.first (member_count block) e j
         (leb-true block.first j s.0) (ltb-true j (block.first + member_count block) s.1)) (t j)
     go false m = t j
 

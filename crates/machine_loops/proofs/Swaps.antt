@@ -14,7 +14,8 @@ use Rattle.pv_picks.specs.Machine.Tasks.{Step, AtRead, AtSend, Task, Stand}
 use Rattle.pv_picks.specs.Machine.Frames.{Frame, location_on, breadth, settled}
 use Rattle.pv_picks.specs.Machine.Worlds.{Thread, OpenBlock, World, at_message}
 use Rattle.pv_picks.specs.Machine.Steps.{Partner, Somebody, Nobody, partner_if}
-use Rattle.machine_laws.proofs.Typed.{location_same, number_same}
+use Rattle.machine_laws.proofs.Typed.{location_same}
+use Rattle.pv_picks.proofs.Sames.{numbers_same}
 use Rattle.machine_loops.proofs.Effects.{found, after_tasks, after_frames, thread_after, message_to, message_of, message_in, message_by, write_in, read_of, read_in, put, with_one, changed, with_sent, after}
 
 -- what stands at a number
@@ -253,7 +254,7 @@ sent-elsewhere blocks b (Some m) label z n h =
     go (same_name label m.0 && same_number z m.1) refl ((blocks b).sent label z) e
   where
     go : (t : Bool) → (same_name label m.0 && same_number z m.1) ≡ t → (o : Bool) → (if t then true else o) ≡ true → o ≡ true
-    go true k o e = absurd (n m refl (number_same z m.1 (and_parts (same_name label m.0) (same_number z m.1) k).1))
+    go true k o e = absurd (n m refl (numbers_same z m.1 (and_parts (same_name label m.0) (same_number z m.1) k).1))
     go false k o e = e
 
 -- who is below a member, by a distance, isn't above it

@@ -1,5 +1,5 @@
-use Rattle.account.proofs.Laws.{predicates_are_taken}
+use Rattle.account.proofs.Framing.{predicates_fit}
 use Rattle.account.proofs.predicates_are_taken.Goals as goal
 
 pub returns : goal.returns
-returns c = predicates_are_taken
+returns c = predicates_fit
