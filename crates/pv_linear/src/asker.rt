@@ -51,8 +51,7 @@ pub enum Added {
 }
 
 /// Answers questions along one path. What a run finds is true of the evidence that follows its path. Crates above call
-/// `question`, `ask_at_most`, `ask_order`, `ask_equal`, `ask_same`, `ask_truth`, `take_turn` and `make_symbol` in place of the
-/// three calls.
+/// `question`, `ask_at_most`, `ask_same`, `take_turn` and `make_symbol` in place of the three calls.
 pub trait Asker {
     ghost use Rattle.std.specs.Prelude.{ℕ, List};
     ghost use Rattle.pv_linear.specs.declared.Literal.{Literal};

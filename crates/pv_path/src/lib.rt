@@ -1,9 +1,9 @@
 //! The search over the cases of a symbolic run: a path of answered questions and turns, and the sides that are still to be walked.
 //!
-//! `ask` costs nothing but a look at the literal where it has a symbol above those of the path, or where a run asks again in
-//! order what the path before was asked; a look along the path where the path has the answer itself, and else one or two calls
-//! of the solver on the literals that were undecided. `turn` looks along the decisions, `fresh` takes constant time and a byte
-//! of memory, and `next_path` and `decided_turns` look along the decisions; `next_path` and `literals` take no memory.
+//! `ask` costs nothing but a look at the literal where it has a symbol above those of the path, a look along the path where the
+//! path has the answer itself, and else one or two calls of the solver on the literals that were undecided. `turn` looks along
+//! the decisions, `fresh` takes constant time, and `next_path` looks along the decisions; `next_path` and `literals` take no
+//! memory.
 #![tactic(auto)]
 
 mod branch;
