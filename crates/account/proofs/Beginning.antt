@@ -1,7 +1,7 @@
 -- The body of a method on whose unit the judge never fails begins: its precondition is owned, and its frame has a run.
-use Rattle.std.proofs.Common.{◌≡◌, ◌⊎◌, inl, inr, ◌≤◌, ℕ, Bool, true, false, if◌then◌else◌, ◌||◌, ◌&&◌, Option, Some, None, List, [], ◌∷◌, refl, ap, sym, subst, ◌∙◌, arith}
+use Rattle.std.proofs.Common.{◌≡◌, ◌⊎◌, inl, inr, ◌≤◌, ℕ, Bool, true, false, if◌then◌else◌, ◌&&◌, Some, None, List, [], ◌∷◌, refl, ap, sym, subst, ◌∙◌, arith}
 use Rattle.std.specs.Prelude.{nat_eq, is_none, is_some, unwrap_or, IsTrue}
-use Rattle.std.proofs.lemmas.Option.{same_Some, none-some}
+use Rattle.std.proofs.lemmas.Option.{none-some}
 use Rattle.pv_base.specs.declared.Name.{Name}
 use Rattle.pv_ast.specs.declared.PvType.{PvType}
 use Rattle.pv_ast.specs.declared.PvType.TheVariants.{Object, Null}
@@ -13,12 +13,12 @@ use Rattle.pv_picks.specs.Formulas.Values.{no_variables, with_arguments}
 use Rattle.pv_picks.specs.Formulas.Heaps.{Heap}
 use Rattle.pv_picks.specs.Judge.States.{Resource, cells_of, empty_state, no_cells}
 use Rattle.pv_picks.specs.Machine.Tasks.{Run}
-use Rattle.pv_picks.specs.Machine.Frames.{no_value, only_now, outer_scene}
+use Rattle.pv_picks.specs.Machine.Frames.{only_now, outer_scene}
 use Rattle.pv_picks.specs.Judge.Judging.{inhale_own, pick_variables}
 use Rattle.pv_picks.specs.Judge.UnitRuns.{OfMethod, go_on, judge_task}
 use Rattle.pv_picks.specs.Typing.Expressions.{silent}
 use Rattle.pv_picks.specs.Typing.Blocks.{types_of, over, gives, MethodFits}
-use Rattle.pv_picks.specs.Typing.Frames.{HasType, VariablesFit, ResultFits}
+use Rattle.pv_picks.specs.Typing.Frames.{HasType, VariablesFit}
 use Rattle.machine_laws.proofs.Kept.{first_result, result_given}
 use Rattle.core_trees.specs.Assigned.{AssignsOnly, BlockAssigns}
 use Rattle.core_trees.specs.Formulas.{in_class, MethodSays}

@@ -1,6 +1,6 @@
 -- Statements, unfolding, and all the local work of a frame up to its next step.
 use Rattle.std.proofs.Common.{◌≡◌, inl, inr, ℕ, zero, suc, ◌≤◌, Bool, true, false, if◌then◌else◌, ◌&&◌, ◌||◌, Option, Some, None, List, [], ◌∷◌, refl, ap, sym, subst, ◌∙◌, arith}
-use Rattle.std.specs.Prelude.{nat_eq, drop, length}
+use Rattle.std.specs.Prelude.{drop, length}
 use Rattle.std.proofs.lemmas.Option.{same_Some, none-some}
 use Rattle.pv_base.specs.declared.Name.{Name}
 use Rattle.pv_base.specs.declared.Span.{Span}
@@ -26,7 +26,7 @@ use Rattle.pv_picks.specs.Machine.Frames.{Frame, top, second, topmost, object_un
 use Rattle.pv_picks.specs.Judge.Judging.{fold_in, unfold_in, judge_block}
 use Rattle.pv_picks.specs.Judge.Runs.{Maps}
 use Rattle.pv_picks.proofs.Sames.{names_same}
-use Rattle.pv_picks.specs.Typing.Expressions.{Home, type_in, IsOf}
+use Rattle.pv_picks.specs.Typing.Expressions.{Home, IsOf}
 use Rattle.pv_picks.specs.Typing.Blocks.{types_of, gives_statement, gives}
 use Rattle.pv_picks.specs.Typing.Tasks.{IsWithin}
 use Rattle.pv_picks.specs.Typing.Frames as typed

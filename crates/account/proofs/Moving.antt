@@ -73,14 +73,19 @@ others_here heap count o i = record {
   lying = λ B j l less. keeps_same B heap;
 }
 
--- a thread goes on with other frames and runs: its last frame's call stays, and it waits for no members, before and after
+-- all members of a block have ended
+abbrev pub AllEnded : (ℕ → Thread) → ℕ → Type 0
+AllEnded threads b = (j : ℕ) (position : ℤ) → (threads j).role ≡ MemberOf b position → has_no_frame (threads j).frames ≡ true
+
+-- a thread goes on with other frames and runs: its last frame's call stays, if it waited for members all have ended, and it goes
+-- on to wait for none
 pub record GoesOn (threads : ℕ → Thread) (o : Owners) (i : ℕ) (frames : List Frame) (runs : List Run) : Type 1 where
   pub bottom : (P : Frame → Run → Type 0) → Stays P → AtBottom P (threads i).frames (o.runs i) → AtBottom P frames runs
   pub messages : (S R : Message → Type 0) → TasksExchange S R (bottom_tasks (threads i).frames)
       → TasksExchange S R (bottom_tasks frames)
   pub live : has_no_frame (threads i).frames ≡ false
   pub stood : (f : Frame) (fs : List Frame) (b : ℕ) (ts : List Task) → (threads i).frames ≡ f ∷ fs
-      → f.tasks ≡ Stand (AtClose b) ∷ ts → ⊥
+      → f.tasks ≡ Stand (AtClose b) ∷ ts → AllEnded threads b
   pub closes : (f : Frame) (fs : List Frame) (b : ℕ) (ts : List Task) → frames ≡ f ∷ fs → f.tasks ≡ Stand (AtClose b) ∷ ts → ⊥
 
 -- what a thread left as a member suffices, if it has ended or arrived at a barrier
@@ -96,20 +101,20 @@ pub record LeavesEnough (p : Program) (flags : ℕ → Bool) (heap : Heap) (role
 pub record FirstGoesOn (f g : Frame) (r s : Run) : Type 1 where
   pub still : IsStill f g
   pub body : s.body ≡ r.body
-  pub stood : (b : ℕ) (ts : List Task) → f.tasks ≡ Stand (AtClose b) ∷ ts → ⊥
   pub closes : (b : ℕ) (ts : List Task) → g.tasks ≡ Stand (AtClose b) ∷ ts → ⊥
   pub messages : (S R : Message → Type 0) → TasksExchange S R f.tasks → TasksExchange S R g.tasks
 
 pub first_goes_on : (threads : ℕ → Thread) (o : Owners) (i : ℕ) (f : Frame) (below : List Frame)
     → (threads i).frames ≡ f ∷ below → (r : Run) (rs : List Run) → o.runs i ≡ r ∷ rs → (g : Frame) (s : Run)
-    → FirstGoesOn f g r s → GoesOn threads o i (g ∷ below) (s ∷ rs)
-first_goes_on threads o i f below stack r rs has g s goes = record {
+    → ((b : ℕ) (ts : List Task) → f.tasks ≡ Stand (AtClose b) ∷ ts → AllEnded threads b) → FirstGoesOn f g r s
+    → GoesOn threads o i (g ∷ below) (s ∷ rs)
+first_goes_on threads o i f below stack r rs has g s stood goes = record {
   bottom = λ P stays h. stays_at_bottom f g r s goes.still goes.body P stays below rs
       (subst (λ fs. AtBottom P fs (r ∷ rs)) stack (subst (AtBottom P (threads i).frames) has h));
   messages = λ S R h. bottom_exchanges S R f g (goes.messages S R) below
       (subst (λ fs. TasksExchange S R (bottom_tasks fs)) stack h);
   live = ap has_no_frame stack;
-  stood = λ h hs b ts e at. goes.stood b ts (ap (λ z. z.tasks) (first_same f h below hs (sym stack ∙ e)) ∙ at);
+  stood = λ h hs b ts e at. stood b ts (ap (λ z. z.tasks) (first_same f h below hs (sym stack ∙ e)) ∙ at);
   closes = λ h hs b ts e at. goes.closes b ts (ap (λ z. z.tasks) (first_same g h below hs e) ∙ at);
 }
 
@@ -138,10 +143,10 @@ leaves_nothing p flags heap role blocks o g below runs left never = record {
 
 -- a frame settles behind a step
 pub settles : (p : Program) (flags : ℕ → Bool) (heap : Heap) (f h : Frame) (r s : Run) → IsStill f h → s.body ≡ r.body
-    → (done : Goes p flags heap (settled h) s) → ((b : ℕ) (ts : List Task) → f.tasks ≡ Stand (AtClose b) ∷ ts → ⊥)
+    → (done : Goes p flags heap (settled h) s)
     → ((S R : Message → Type 0) → TasksExchange S R f.tasks → TasksExchange S R h.tasks)
     → FirstGoesOn f (settled h) r done.run
-settles p flags heap f h r s still body done stood messages = record {
+settles p flags heap f h r s still body done messages = record {
   still = let k = settled_still h in record {
     class = k.class ∙ still.class;
     method = k.method ∙ still.method;
@@ -150,7 +155,6 @@ settles p flags heap f h r s still body done stood messages = record {
     old = k.old ∙ still.old;
   };
   body = done.body ∙ body;
-  stood = stood;
   closes = closes_not (standing_in p (settled h).class done.run.body done.run.outer) done.run.inner done.run.scope done.run.given
       done.run.stack (settled h) done.says;
   messages = λ S R k. settled_exchanges S R h (messages S R k);
@@ -257,7 +261,9 @@ module _ (p : Program) (flags : ℕ → Bool) (heap later : Heap) (count : ℕ) 
       }
 
       -- blocks, where this thread left what suffices
-      module _ (left : ℕ → Amounts) (stays : (j : ℕ) → nat_eq j i ≡ false → left j ≡ o.left j)
+      module _ (left : ℕ → Amounts)
+          (stays : (j : ℕ) → nat_eq j i ≡ false → (b : ℕ) (position : ℤ) → (threads j).role ≡ MemberOf b position
+          → (has_no_frame (threads j).frames ≡ true → nat_eq (blocks b).opener i ≡ false) → left j ≡ o.left j)
           (enough : LeavesEnough p flags later (threads i).role blocks o frames runs (left i)) where
         -- what a member left, as it ended, is what its block asks for
         abbrev IsLeft : Heap → ℕ → ℤ → Amounts → Type 0
@@ -265,21 +271,22 @@ module _ (p : Program) (flags : ℕ → Bool) (heap later : Heap) (count : ℕ) 
             KeepsOwning p flags at (scene_at (o.openings b) (blocks b).team position) (blocks b).team.shared.one.after A
 
         left_moved : (j : ℕ) → j < count → (b : ℕ) (position : ℤ) → (threads j).role ≡ MemberOf b position
+            → nat_eq (blocks b).opener i ≡ false
             → (has_no_frame (threads j).frames ≡ true → IsLeft heap b position (o.left j))
             → has_no_frame (threads_with j).frames ≡ true → IsLeft later b position (left j)
-        left_moved j l b position = each (λ k t x. k < count → (threads k).role ≡ MemberOf b position
+        left_moved j l b position role opener = each (λ k t x. k < count → (threads k).role ≡ MemberOf b position
             → (has_no_frame (threads k).frames ≡ true → IsLeft heap b position (o.left k)) → has_no_frame t.frames ≡ true
             → IsLeft later b position (left k))
             (λ n role was none. enough.ended b position role none)
-            (λ k apart n role was none. subst (IsLeft later b position) (sym (stays k apart))
+            (λ k apart n role was none. subst (IsLeft later b position) (sym (stays k apart b position role (λ ended. opener)))
             (owning_later p flags heap later (scene_at (o.openings b) (blocks b).team position) (blocks b).team.shared.one.after
-            (o.left k) (keep.lying (o.left k) k n (λ q. omega arith)) (was none))) j l
+            (o.left k) (keep.lying (o.left k) k n (λ q. omega arith)) (was none))) j l role
 
         module _ (block_count : ℕ) where
-          waits_moved : (j b : ℕ) (g : Frame) (s : Run) (rest : List Task)
+          waits_moved : (j b : ℕ) (g : Frame) (s : Run) (rest : List Task) → nat_eq j i ≡ false
               → WaitsForMembers p flags heap count threads block_count o.left (o.openings b) j b (blocks b) g s rest
               → WaitsForMembers p flags later count threads_with block_count left (o.openings b) j b (blocks b) g s rest
-          waits_moved j b g s rest h = record {
+          waits_moved j b g s rest apart h = record {
             number = h.number;
             opener = h.opener;
             class = h.class;
@@ -292,15 +299,17 @@ module _ (p : Program) (flags : ℕ → Bool) (heap later : Heap) (count : ℕ) 
             counted = h.counted;
             roles = λ k l. role_same ((blocks b).first + k) ∙ h.roles k l;
             ended = λ k l. left_moved ((blocks b).first + k) (let c = h.counted in omega (arith, l, c)) b
-                ((blocks b).low +ℤ pos k) (h.roles k l) (h.ended k l);
+                ((blocks b).low +ℤ pos k) (h.roles k l)
+                (subst (λ z. nat_eq z i ≡ false) (sym h.opener) apart) (h.ended k l);
           }
 
           -- a member's opener isn't this thread
-          opener_same : (j b : ℕ) (g : Frame) (gs : List Frame) (rest : List Task) → (threads j).frames ≡ g ∷ gs
-              → g.tasks ≡ Stand (AtClose b) ∷ rest → (threads_with j).frames ≡ g ∷ gs
-          opener_same j b g gs rest = each
+          opener_same : (j : ℕ) (position : ℤ) (o b : ℕ) → (threads j).role ≡ MemberOf b position
+              → has_no_frame (threads j).frames ≡ false → (g : Frame) (gs : List Frame) (rest : List Task)
+              → (threads o).frames ≡ g ∷ gs → g.tasks ≡ Stand (AtClose b) ∷ rest → (threads_with o).frames ≡ g ∷ gs
+          opener_same j position o b role live g gs rest = each
               (λ k t x. (threads k).frames ≡ g ∷ gs → g.tasks ≡ Stand (AtClose b) ∷ rest → t.frames ≡ g ∷ gs)
-              (λ e at. absurd (m.stood g gs b rest e at)) (λ k apart e at. e) j
+              (λ e at. let ended = m.stood g gs b rest e at j position role in absurd (cc (ended, live))) (λ k apart e at. e) o
 
           -- what is said of who has arrived at a barrier, with these frames and runs
           abbrev Arrivals : Heap → ℕ → ℤ → List Frame → List Run → Amounts → Type 0
@@ -310,27 +319,31 @@ module _ (p : Program) (flags : ℕ → Bool) (heap later : Heap) (count : ℕ) 
               → HasArrived p flags at (o.openings b) (blocks b) position barrier s A
 
           arrivals_moved : (j : ℕ) → j < count → (b : ℕ) (position : ℤ) → (threads j).role ≡ MemberOf b position
+              → has_no_frame (threads j).frames ≡ false
               → Arrivals heap b position (threads j).frames (o.runs j) (o.left j)
               → Arrivals later b position (threads_with j).frames (at_number i runs o.runs j) (left j)
           arrivals_moved j l b position = each (λ k t y. k < count → (threads k).role ≡ MemberOf b position
+              → has_no_frame (threads k).frames ≡ false
               → Arrivals heap b position (threads k).frames (o.runs k) (o.left k) → Arrivals later b position t.frames y (left k))
-              (λ n role was g s ss barrier span others e has at.
+              (λ n role live was g s ss barrier span others e has at.
               enough.arrived b position role g s ss barrier span others e has at)
-              (λ k apart n role was g s ss barrier span others e has at.
-              subst (HasArrived p flags later (o.openings b) (blocks b) position barrier s) (sym (stays k apart))
+              (λ k apart n role live was g s ss barrier span others e has at.
+              subst (HasArrived p flags later (o.openings b) (blocks b) position barrier s)
+              (sym (stays k apart b position role (λ ended. absurd (cc (ended, live)))))
               (arrived_later p flags heap later keep.grown (o.openings b) (blocks b) position barrier s (o.left k)
               (keep.lying (o.left k) k n (λ q. omega arith)) (was g s ss barrier span others e has at))) j l
 
           member_moved : (j : ℕ) → j < count → (b : ℕ) (position : ℤ) → (threads j).role ≡ MemberOf b position
+              → has_no_frame (threads j).frames ≡ false
               → MemberRuns p flags heap count threads (o.left j) (o.openings b) j b (blocks b) position (o.runs j)
               → MemberRuns p flags later count threads_with (left j) (o.openings b) j b (blocks b) position
               (at_number i runs o.runs j)
-          member_moved j l b position role x = record {
+          member_moved j l b position role live x = record {
             opener = x.opener;
             frame = x.frame;
             below = x.below;
             rest = x.rest;
-            stack = opener_same (blocks b).opener b x.frame x.below x.rest x.stack x.waits;
+            stack = opener_same j position (blocks b).opener b role live x.frame x.below x.rest x.stack x.waits;
             waits = x.waits;
             number = x.number;
             less = x.less;
@@ -340,7 +353,7 @@ module _ (p : Program) (flags : ℕ → Bool) (heap later : Heap) (count : ℕ) 
                 → AtBottom (IsMember (o.openings b) (blocks b) position) t.frames y)
                 (m.bottom (IsMember (o.openings b) (blocks b) position) (member_stays (o.openings b) (blocks b) position))
                 (λ k apart h. h) j x.member;
-            arrived = arrivals_moved j l b position role x.arrived;
+            arrived = arrivals_moved j l b position role live x.arrived;
           }
 
           pub blocks_moved : (mail : ℕ → Mail) (promise guard : ℕ → Amounts)
@@ -352,8 +365,9 @@ module _ (p : Program) (flags : ℕ → Bool) (heap later : Heap) (count : ℕ) 
                 (λ k t x. k < count → t.frames ≡ g ∷ gs → x ≡ s ∷ ss → g.tasks ≡ Stand (AtClose b) ∷ rest
                 → WaitsForMembers p flags later count threads_with block_count left (o.openings b) k b (blocks b) g s rest)
                 (λ n e x at. absurd (m.closes g gs b rest e at))
-                (λ k apart n e x at. waits_moved k b g s rest (fits.openers k n g gs s ss b rest e x at)) j l;
+                (λ k apart n e x at. waits_moved k b g s rest apart (fits.openers k n g gs s ss b rest e x at)) j l;
             members = λ j l b position role live. member_moved j l b position (sym (role_same j) ∙ role)
+                (live_before j live)
                 (fits.members j l b position (sym (role_same j) ∙ role) (live_before j live));
           }
 
@@ -365,6 +379,7 @@ module _ (p : Program) (flags : ℕ → Bool) (heap later : Heap) (count : ℕ) 
     families_moved block_count blocks state new enough promise guard k = record {
       threads_run = threads_moved k.threads_run new;
       roles = roles_moved state k.roles;
-      blocks_fit = blocks_moved blocks o.left (λ j e. refl) enough block_count o.mail promise guard k.blocks_fit;
+      blocks_fit = blocks_moved blocks o.left (λ j e b position role opener. refl) enough block_count o.mail promise guard
+          k.blocks_fit;
       mail = mail_moved blocks o.left promise guard k.mail;
     }

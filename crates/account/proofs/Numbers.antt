@@ -1,9 +1,8 @@
 -- Numbers below a count, and the numbers of a range's positions.
-use Rattle.std.proofs.Common.{◌≡◌, ℕ, ◌<◌, ℤ, pos, negsuc, ◌-ℤ◌, ◌+ℤ◌, Bool, true, false, refl, arith, rules}
-use Rattle.std.specs.Prelude.{nat_eq, nat_lt, int_le, int_lt}
+use Rattle.std.proofs.Common.{◌≡◌, ℕ, ◌<◌, ℤ, pos, negsuc, ◌-ℤ◌, ◌+ℤ◌, true, refl, arith, rules}
+use Rattle.std.specs.Prelude.{nat_lt, int_le, int_lt}
 use Rattle.std.proofs.lemmas.Int.{ints}
 use Rattle.pv_picks.specs.Formulas.Values.{within, width, or_zero}
-use Rattle.pv_picks.proofs.Sames.{naturals_same}
 use Rattle.account_formulas.proofs.Basics.{both, not_false}
 
 -- what the test says

@@ -1,5 +1,5 @@
 -- Well typed statements and expressions, with their formulas, become well typed tasks.
-use Rattle.std.proofs.Common.{◌≡◌, suc, Bool, false, ◌||◌, Option, Some, None, List, [], ◌∷◌, length, refl, sym, subst, ap}
+use Rattle.std.proofs.Common.{◌≡◌, Bool, false, ◌||◌, Option, Some, None, List, [], ◌∷◌, refl, sym, subst}
 use Rattle.pv_base.specs.declared.Name.{Name}
 use Rattle.pv_base.specs.declared.Span.{Span}
 use Rattle.pv_ast.specs.declared.PvType.{PvType}
@@ -9,7 +9,7 @@ use Rattle.pv_picks.specs.Formulas.Values.{array_of}
 use Rattle.pv_picks.specs.Machine.Tasks.{Task, EvaluateAll, tasks_of_target, tasks_of_right, put_into, tasks_of_statement}
 use Rattle.machine_laws.proofs.Statements.{as_many}
 use Rattle.core_trees.specs.Returns.{Goes}
-use Rattle.pv_picks.specs.Typing.Expressions.{Home, answer_of, AreOf, onto}
+use Rattle.pv_picks.specs.Typing.Expressions.{answer_of, AreOf, onto}
 use Rattle.pv_picks.specs.Typing.Blocks as fits
 use Rattle.pv_picks.specs.Typing.Blocks.{types_of, TargetFits, RightFits, gives_statement, gives, StatementFits}
 use Rattle.pv_picks.specs.Typing.Tasks.{writes_field, writes_element, makes_object, makes_array, at_assert, at_fold, at_call, at_action, at_open, at_arrive, at_send, at_receive}

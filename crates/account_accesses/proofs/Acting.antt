@@ -78,7 +78,8 @@ steps_on p w a i inside f below stack value g s = accounted p w a i inside (late
         (sym (called_same f g s.old s.run s.still s.past s.body)) s.waits),
   );
   goes = first_goes_on w.threads a.owners i f below stack s.old s.others s.had (settled g) done.run
-      (settles p w.committed (later w value) f g s.old s.run s.still s.body done s.stood s.messages);
+      (λ b ts at. absurd (s.stood b ts at))
+      (settles p w.committed (later w value) f g s.old s.run s.still s.body done s.messages);
   leaves = leaves_nothing p w.committed (later w value) (w.threads i).role w.blocks a.owners (settled g) below
       (done.run ∷ s.others)
       (a.owners.left i) (settled_leaves_not p w.committed (later w value) g s.run done);

@@ -24,7 +24,6 @@ use Rattle.account_formulas.specs.Sights.{Stands}
 use Rattle.account_formulas.specs.Owning.{Amounts, IsPlaced, KeepsHeld}
 use Rattle.account_formulas.specs.Growing.{HeapFits}
 use Rattle.account_formulas.proofs.Asking.{location_self}
-use Rattle.account_formulas.proofs.Basics.{nat_self, number_self, both}
 use Rattle.account_formulas.proofs.Raising.{some_of}
 use Rattle.account.proofs.Later.{Grown}
 

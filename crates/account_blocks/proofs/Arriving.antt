@@ -226,13 +226,14 @@ module _ (p : Program) (w : World) (a : Account p w) (sound : HeapFits p w.heap)
       (never_turn k.run.taken turns 2 refl gave.never)
 
   goes : GoesOn w.threads a.owners i (behind ∷ []) (run ∷ [])
-  goes = first_goes_on w.threads a.owners i f [] stack k.run [] k.has_runs behind run (record {
-    still = record { class = refl; method = refl; this = refl; begun = refl; old = refl };
-    body = refl;
-    stood = λ c ts e. let z = first_step (AtArrive barrier span) (AtClose c) rest ts (sym is ∙ e) in absurd (cc z);
-    closes = λ c ts e. let z = first_step (AtLeave barrier span) (AtClose c) rest ts e in absurd (cc z);
-    messages = λ S R h. (tt, (subst (TasksExchange S R) is h).1);
-  })
+  goes = first_goes_on w.threads a.owners i f [] stack k.run [] k.has_runs behind run
+      (λ c ts e. let z = first_step (AtArrive barrier span) (AtClose c) rest ts (sym is ∙ e) in absurd (cc z))
+      (record {
+        still = record { class = refl; method = refl; this = refl; begun = refl; old = refl };
+        body = refl;
+        closes = λ c ts e. let z = first_step (AtLeave barrier span) (AtClose c) rest ts e in absurd (cc z);
+        messages = λ S R h. (tt, (subst (TasksExchange S R) is h).1);
+      })
 
   -- it has arrived there as the member that it is
   has_arrived : (c : ℕ) (position : ℤ) → (w.threads i).role ≡ MemberOf c position → (h : Frame) (q : Run) (qs : List Run)
@@ -263,7 +264,7 @@ module _ (p : Program) (w : World) (a : Account p w) (sound : HeapFits p w.heap)
     locks = λ class x. let s = gave.sum (OfLock class x) in let had = ap (λ z. all_of z (OfLock class x)) k.has_runs in
         omega (arith, s, had);
     no_locks = λ j l class x. locks_at j l class x (nat_eq j i);
-    stays = λ j e. at_other i j part a.owners.left e;
+    stays = λ j e c position is' opener. at_other i j part a.owners.left e;
     enough = record { ended = λ c position is' none. absurd (cc none); arrived = has_arrived };
     there = λ j l c position is' label some was. a.mail.there j l c position is' label
         (still_receives p w.committed w.heap w.heap w.count w.threads a.owners i (others_here w.heap w.count a.owners i)

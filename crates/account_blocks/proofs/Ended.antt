@@ -33,7 +33,7 @@ module _ (p : Program) (w : World) (a : Account p w) (i : ℕ) (inside : i < w.c
     less = λ q. sum_less _ _ w.count (λ j. less_at j q (nat_eq j i) refl);
     locks = λ class x. omega arith;
     no_locks = λ j l class x. locks_at j l class x (nat_eq j i);
-    stays = λ j e. at_other i j R a.owners.left e;
+    stays = λ j e c position is' opener. at_other i j R a.owners.left e;
     enough = record {
       ended = λ c position is' none.
           subst (KeepsOwning p w.committed w.heap (scene_at (a.owners.openings c) (w.blocks c).team position)

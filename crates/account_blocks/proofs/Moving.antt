@@ -39,8 +39,9 @@ module _ (p : Program) (w : World) (a : Account p w) (i : ℕ) (frames : List Fr
     pub less : (q : Resource) → sum_below (λ j. at_thread after j q) w.count ≤ sum_below (λ j. at_thread a.owners j q) w.count
     pub locks : (class : Name) (x : ℕ) → all_of runs (OfLock class x) ≤ all_of (a.owners.runs i) (OfLock class x)
     pub no_locks : (j : ℕ) → j < w.count → (class : Name) (x : ℕ) → lies_at after j (OfLock class x) ≡ 0
-    -- other threads left what they did
-    pub stays : (j : ℕ) → nat_eq j i ≡ false → left j ≡ a.owners.left j
+    -- other threads left what they did, but for members of a block that this thread closes
+    pub stays : (j : ℕ) → nat_eq j i ≡ false → (c : ℕ) (position : ℤ) → (w.threads j).role ≡ MemberOf c position
+        → (has_no_frame (w.threads j).frames ≡ true → nat_eq (w.blocks c).opener i ≡ false) → left j ≡ a.owners.left j
     pub enough : LeavesEnough p w.committed w.heap (w.threads i).role w.blocks a.owners frames runs (left i)
     pub there : (j : ℕ) → j < w.count → (c : ℕ) (position : ℤ) → (w.threads j).role ≡ MemberOf c position
         → (label : Name) → (ReceivesNone label ((with_frames w i frames).threads j).frames → ⊥)

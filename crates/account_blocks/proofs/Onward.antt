@@ -65,9 +65,10 @@ module _ (p : Program) (w : World) (a : Account p w) (sound : HeapFits p w.heap)
 
     pub goes : GoesOn w.threads a.owners i (behind ∷ []) (done.run ∷ [])
     goes = first_goes_on w.threads a.owners i f [] stack r [] has_runs behind done.run
+        (λ c ts e. absurd (no_close c (first step (AtClose c) rest ts (sym is ∙ e))))
         (settles p w.committed w.heap f (goes_on f rest) r s
         (record { class = refl; method = refl; this = refl; begun = refl; old = refl }) body done
-        (λ c ts e. no_close c (first step (AtClose c) rest ts (sym is ∙ e))) (λ S R h. (subst (TasksExchange S R) is h).1))
+        (λ S R h. (subst (TasksExchange S R) is h).1))
       where
         first : (x y : Step) (xs ys : List Task) → Stand x ∷ xs ≡ Stand y ∷ ys → x ≡ y
         first x y xs ys e = cc e
@@ -99,7 +100,7 @@ module _ (p : Program) (w : World) (a : Account p w) (sound : HeapFits p w.heap)
       locks = λ class x. let k = done.less (OfLock class x) in let l = locks class x in
           let had = ap (λ z. all_of z (OfLock class x)) has_runs in omega (arith, k, l, had);
       no_locks = no_locks;
-      stays = stays;
+      stays = λ j e c position is' opener. stays j e;
       enough = leaves_nothing p w.committed w.heap (w.threads i).role w.blocks a.owners behind [] (done.run ∷ []) (left i)
           (settled_leaves_not p w.committed w.heap (goes_on f rest) s done);
       there = there;

@@ -32,7 +32,7 @@ use Rattle.account.specs.Messages.{ReceivesNone, Lies}
 use Rattle.account.specs.Accounts.{Account, Kept}
 use Rattle.account.specs.Scoped.{TasksSay}
 use Rattle.account.specs.Going.{Goes}
-use Rattle.account.proofs.Sums.{sum_less, at_same, at_other}
+use Rattle.account.proofs.Sums.{at_same, at_other}
 use Rattle.account.proofs.Stepping.{by_run}
 use Rattle.account_blocks.proofs.Moving.{Moves, moved}
 use Rattle.account_blocks.proofs.Sites.{site_scene, at_a_send}

@@ -174,9 +174,9 @@ module _ (p : Program) (verified : IsVerifiedThroughout p) (w : World) (sound : 
               (below_later p w.committed w.heap (Later size) grown (called_of f r) below rs (kept (all_of rs)) fits.1),
         );
         goes = first_goes_on w.threads a.owners i f below stands_at r rs has (settled Behind) go.run
+            (λ b ts at. absurd (cc (is, at)))
             (settles p w.committed (Later size) f Behind r run
             (record { class = refl; method = refl; this = refl; begun = refl; old = refl }) refl go
-            (λ b ts at. absurd (cc (is, at)))
             (λ S R h. (subst (λ ts. TasksExchange S R ts) is h).1));
         leaves = leaves_nothing p w.committed (Later size) (w.threads i).role w.blocks a.owners (settled Behind) below
             (go.run ∷ rs)

@@ -205,7 +205,7 @@ module _ (p : Program) (verified : IsVerifiedThroughout p) (w : World) (sound : 
           (λ h. (tt, (subst (λ ts. TasksExchange S R ts) is h).1)) below
           (subst (λ fs. TasksExchange S R (bottom_tasks fs)) stands_at b);
       live = ap has_no_frame stands_at;
-      stood = λ h hs b ts e at. apart_call b ts h hs e at;
+      stood = λ h hs b ts e at. absurd (apart_call b ts h hs e at);
       closes = λ h hs b ts e at. closes_not (standing_in p called.class g.callee.body g.callee.outer) g.callee.inner
           g.callee.scope g.callee.given g.callee.stack called g.says b ts
           (ap (λ z. z.tasks) (first_same called h (waiting_frame f class m count rest ∷ below) hs e) ∙ at);

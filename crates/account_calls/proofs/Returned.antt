@@ -63,7 +63,7 @@ module _ (p : Program) (w : World) (sound : HeapFits p w.heap) (framed : Predica
             (λ h. settled_exchanges S R (Onto rest) (subst (λ ts. TasksExchange S R ts) behind (later S R g.tasks h))) others
             (subst (λ fs. TasksExchange S R (bottom_tasks fs)) stands_at b);
         live = ap has_no_frame stands_at;
-        stood = λ h hs b ts e at. no_task_waits f h (g ∷ others) hs b ts over (sym stands_at ∙ e) at;
+        stood = λ h hs b ts e at. absurd (no_task_waits f h (g ∷ others) hs b ts over (sym stands_at ∙ e) at);
         closes = λ h hs b ts e at. closes_not (standing_in p (settled (Onto rest)).class go.run.body go.run.outer) go.run.inner
             go.run.scope go.run.given go.run.stack (settled (Onto rest)) go.says b ts
             (ap (λ z. z.tasks) (first_same (settled (Onto rest)) h others hs e) ∙ at);

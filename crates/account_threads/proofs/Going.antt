@@ -43,7 +43,8 @@ module _ (p : Program) (flags : ℕ → Bool) (heap : Heap) (sound : HeapFits p 
       families_moved p flags heap heap count threads o i (others_here heap count o i) (settled (pops 1 f rest) ∷ below)
       (done.run ∷ rs)
       (first_goes_on threads o i f below stack r rs has_runs (settled (pops 1 f rest)) done.run
-      (settles p flags heap f (pops 1 f rest) r run still body done (λ b ts e. absurd (cc (is, e)))
+      (λ b ts e. absurd (cc (is, e)))
+      (settles p flags heap f (pops 1 f rest) r run still body done
       (λ S R h. (subst (TasksExchange S R) is h).1)))
       block_count blocks state (
         done.fits,

@@ -24,7 +24,7 @@ use Rattle.core_trees.specs.Formulas.{in_class}
 use Rattle.account_formulas.specs.Sights.{Contents, SceneFits}
 use Rattle.account_formulas.specs.Runs.{Taken, truly, RestNeverFails}
 use Rattle.account_formulas.specs.Good.{IsGood}
-use Rattle.account_formulas.specs.Owning.{Amounts, Owns, KeepsOwning, KeepsHeld, HasTrees}
+use Rattle.account_formulas.specs.Owning.{Amounts, Owns, KeepsOwning, HasTrees}
 use Rattle.account_formulas.specs.Growing.{StateFits, Place, HeapFits}
 use Rattle.account_formulas.specs.Giving.{Gave}
 use Rattle.account_formulas.specs.Gaining.{PredicatesFit, Gained, nothing_taken}

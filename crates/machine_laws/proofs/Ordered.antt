@@ -1,6 +1,6 @@
 -- The ordered run of a loop is one: where two of them end, they end in one world.
 use Rattle.std.proofs.Common.{◌≡◌, ℕ, zero, suc, ◌+◌, ◌-◌, ◌<◌, ◌≤◌, ℤ, pos, Bool, true, false, List, [], ◌∷◌, map, refl, sym, ap, subst, arith, ◌∙◌, ◌⊎◌, inl, inr}
-use Rattle.std.specs.Prelude.{not, nat_lt, ◌&&◌, if◌then◌else◌, ◌+ℤ◌}
+use Rattle.std.specs.Prelude.{not, nat_lt, if◌then◌else◌, ◌+ℤ◌}
 use Rattle.std.proofs.lemmas.Bool.{eq-eqb, le-leb, lt-ltb, ltb-true, ltb-false}
 use Rattle.pv_picks.specs.declared.check.Check.{Check}
 use Rattle.pv_picks.specs.declared.check.Check.TheVariants as check

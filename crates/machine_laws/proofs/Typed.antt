@@ -1,5 +1,5 @@
 -- Steps that keep to the kinds keep a heap well typed.
-use Rattle.std.proofs.Common.{◌≡◌, ◌⊎◌, inl, inr, ℕ, zero, suc, ◌<◌, ℤ, pos, negsuc, Bool, true, false, ◌&&◌, cond, Option, Some, None, IsSome, is_some, List, [], ◌∷◌, length, slice_get, nat_eq, refl, sym, subst, ◌∙◌, ap, arith}
+use Rattle.std.proofs.Common.{◌≡◌, ◌⊎◌, inl, inr, ℕ, zero, suc, ◌<◌, ℤ, pos, negsuc, Bool, true, false, cond, Option, Some, None, IsSome, is_some, List, [], ◌∷◌, length, slice_get, nat_eq, refl, sym, subst, ◌∙◌, ap, arith}
 use Rattle.std.specs.Prelude.{map, option_map}
 use Rattle.std.proofs.lemmas.Option.{none-some, same_Some, slice_get_within}
 use Rattle.std.proofs.lemmas.Bool.{eqb-true}

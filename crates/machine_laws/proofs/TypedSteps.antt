@@ -1,8 +1,8 @@
 -- A step of a well typed world leads to a well typed world.
-use Rattle.std.proofs.Common.{◌≡◌, refl, sym, subst, ap, ℕ, zero, suc, ℤ, pos, negsuc, Bool, true, false, cond, Option, Some, None, IsSome, List, [], ◌∷◌, length, nat_eq, arith}
-use Rattle.std.specs.Prelude.{◌&&◌, not, is_none, drop, reverse, take, nat_le, nat_lt, ◌+◌, ◌≤◌, ◌<◌, ◌-◌, ◌+ℤ◌, ◌-ℤ◌, if◌then◌else◌}
+use Rattle.std.proofs.Common.{◌≡◌, refl, sym, subst, ap, ℕ, suc, ℤ, pos, negsuc, Bool, true, false, cond, Option, Some, None, IsSome, List, [], ◌∷◌, length, nat_eq}
+use Rattle.std.specs.Prelude.{◌&&◌, not, is_none, drop, reverse, take, nat_le, nat_lt, ◌+◌, ◌-◌, ◌+ℤ◌, ◌-ℤ◌, if◌then◌else◌}
 use Rattle.std.proofs.lemmas.Option.{none-some, same_Some}
-use Rattle.std.proofs.lemmas.Bool.{ltb-true, ltb-false, leb-true}
+use Rattle.std.proofs.lemmas.Bool.{ltb-true, leb-true}
 use Rattle.pv_base.specs.declared.Name.{Name}
 use Rattle.pv_base.specs.declared.Span.{Span}
 use Rattle.pv_ast.specs.declared.PvType.{PvType}
@@ -22,7 +22,7 @@ use Rattle.pv_picks.specs.Machine.Starts.{field_kind}
 use Rattle.pv_picks.specs.Machine.Tasks.{Spot, FieldOf, ElementOf, Step, AtRead, AtWrite, AtLength, AtNewObject, AtNewArray, AtAssert, AtFold, AtHead, AtCall, AtAction, AtOpen, AtClose, AtArrive, AtLeave, AtSend, AtReceive, Task, Evaluate, EvaluateAll, Combine, Choose, Branch, Turn, Put, Drop, Give, Unfolded, Run, Stand, Resume}
 use Rattle.pv_picks.specs.Machine.Frames.{Frame, top, second, topmost, location_on, object_under, breadth, goes_on, pops, pushes, settled, entered, sight_of, body_scene, contract_scene}
 use Rattle.pv_picks.specs.Formulas.Meeting.{Finding, AllMet, FirstUnmet, unmet, unmet_shared}
-use Rattle.pv_picks.specs.Machine.Worlds.{Role, Entry, RunOf, MemberOf, Thread, Mode, Free, OpenBlock, ThreadState, World, each_from, is_member, member_count, member_of, member_thread, members_ended, with_frames, with_holder, with_committed_object, with_message, with_members, is_held_back}
+use Rattle.pv_picks.specs.Machine.Worlds.{Role, Entry, RunOf, MemberOf, Thread, Mode, Free, OpenBlock, ThreadState, World, is_member, member_count, member_of, member_thread, members_ended, with_frames, with_holder, with_committed_object, with_message, with_members, is_held_back}
 use Rattle.pv_picks.specs.Machine.Steps.{Result, not_null, is_met_on, called, forked, keeps_invariant, is_own, act_new_object, act_open, act_arrive, act_leave, all_leave, all_behind, frames_behind, frames_leave, tasks_leave, ended, needs, needs_met, waits_unless, goes, read, write, act_length, act_new_array, act_fold, act_call, act_fork, act_join, act_lock, act_unlock, act_commit, act_on, Partner, Somebody, Nobody, receiver_of, sender_of, is_declared, act_send, act_receive, as_member, act_step, act_end, returned, act_tasks, act_frames, act, first_fields}
 use Rattle.machine_laws.specs.HeapSteps.{WhereItGoes}
 use Rattle.pv_picks.specs.Typing.Heaps.{KeepsKinds}
