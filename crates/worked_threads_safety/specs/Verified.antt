@@ -1,5 +1,5 @@
--- Worked programs of threads, blocks, messages and recursive predicates: no evidence makes the judge fail on any of their units, so
--- they are safe and agree on their loops.
+-- Worked programs of threads, blocks, messages and recursive predicates: no evidence makes the judge fail on any of their units,
+-- so they are safe and agree on their loops.
 use Rattle.pv_picks.specs.Verdicts.Theorems.{IsVerified, IsPassed}
 use Rattle.worked_programs.specs.Witnesses.{divided, handed, relay, posted, list}
 
