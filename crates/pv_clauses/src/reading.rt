@@ -8,10 +8,11 @@ ghost use Rattle.pv_clauses.specs.Reading as reading;
 
 use pv_ast::{Clause, ClauseKind, Clauses};
 use pv_base::Span;
-use pv_exprs::{Part, read_formula};
+use pv_exprs::read_formula;
 use pv_reading::{ReadFault, expected};
 use pv_tokens::fixed::{CONTEXT, ENSURES, REQUIRES, SEMICOLON};
 use pv_tokens::{Lexeme, LexemeKind};
+use sqlite_items::Boxed;
 use std::alloc::Global;
 
 fn clause_kind(kind: LexemeKind) -> Option<ClauseKind>
@@ -49,16 +50,14 @@ pub fn read_clause<'a>(
     kind: ClauseKind,
     tokens: &'a [Lexeme],
     room: u32,
-) -> Result<(Clause, &'a [Lexeme]), ReadFault>
+) -> Result<(Boxed<Clause>, &'a [Lexeme]), ReadFault>
     ensures { Gives (λ x. x.0) (λ x. x.1.now) result (reading.clause (deeper room) kind tokens.now) }
 {
     let (formula, rest) = read_formula(alloc, tokens, room)?;
     let (_, rest) = expected(rest, SEMICOLON)?;
-    let Part {
-        tree: formula,
-        span: _,
-    } = formula;
-    Ok((Clause { kind, formula }, rest))
+    let formula = formula.into_tree();
+    let clause = Boxed::new(alloc, Clause { kind, formula })?;
+    Ok((clause, rest))
 }
 
 /// Clauses behind those found so far, as long as another begins.
@@ -76,7 +75,7 @@ pub fn read_clauses<'a>(
         match clause_word(rest) {
             Some((kind, _, behind)) => {
                 let (next, behind) = read_clause(alloc, kind, behind, room)?;
-                all.push(next)?;
+                all.push(next.into_inner())?;
                 rest = behind;
             }
             None => return Ok((all, rest)),

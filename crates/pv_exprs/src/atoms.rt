@@ -6,26 +6,28 @@ ghost use Rattle.pv_tokens.specs.declared.fixed.TheConstants.{AND_AND, AT_MOST, 
 ghost use Rattle.pv_exprs.specs.declared.part.Chain.{Chain};
 ghost use Rattle.pv_exprs.specs.declared.part.Chain.TheVariants.{Other};
 ghost use Rattle.pv_exprs.specs.Reading as reading;
+ghost use Rattle.pv_exprs.specs.Trees.{node};
 
-use crate::part::{Amount, Part, bare};
+use crate::part::Amount;
 use pv_ast::{ExprKind, Word};
+use pv_base::Span;
 use pv_reading::{ReadFault, across, after, expected, expected_name, expected_number, numbered};
 use pv_tokens::Lexeme;
 use pv_tokens::fixed::{AND_AND, AT_MOST, BACKSLASH, FALSE, LESS, NULL, TRUE, WRITE};
 
-/// The constant that comes first, and the tokens behind it.
+/// The constant that comes first, where it stands, and the tokens behind it.
 #[tactic(auto, unfolding(crate::specs::Reading::constant_or))]
-pub fn constant(tokens: &[Lexeme]) -> Option<(Part, &[Lexeme])>
-    ensures { MatchOption result ((r : Parser Chain) → reading.constant_or r tokens.now ≡ r tokens.now) (λ x. (r : Parser Chain) → reading.constant_or r tokens.now ≡ Good (Other x.0) x.1.now) }
+pub fn constant(tokens: &[Lexeme]) -> Option<(ExprKind, Span, &[Lexeme])>
+    ensures { MatchOption result ((r : Parser Chain) → reading.constant_or r tokens.now ≡ r tokens.now) (λ x. (r : Parser Chain) → reading.constant_or r tokens.now ≡ Good (Other (node x.1 x.0)) x.2.now) }
 {
     match numbered(tokens) {
-        Some((value, span, rest)) => Some((bare(span, ExprKind::Number(value)), rest)),
+        Some((value, span, rest)) => Some((ExprKind::Number(value), span, rest)),
         None => match after(tokens, TRUE) {
-            Some((span, rest)) => Some((bare(span, ExprKind::Truth(true)), rest)),
+            Some((span, rest)) => Some((ExprKind::Truth(true), span, rest)),
             None => match after(tokens, FALSE) {
-                Some((span, rest)) => Some((bare(span, ExprKind::Truth(false)), rest)),
+                Some((span, rest)) => Some((ExprKind::Truth(false), span, rest)),
                 None => match after(tokens, NULL) {
-                    Some((span, rest)) => Some((bare(span, ExprKind::Null), rest)),
+                    Some((span, rest)) => Some((ExprKind::Null, span, rest)),
                     None => None,
                 },
             },

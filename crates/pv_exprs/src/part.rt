@@ -9,16 +9,24 @@ use pv_reading::{ReadFault, across};
 use sqlite_items::Boxed;
 use std::alloc::Global;
 
-/// A tree, and where the tokens that spell it begin and end, parentheses around it too.
+/// A tree, and where the tokens that spell it begin and end, parentheses around it too. The tree is boxed, so that the tree
+/// around it takes the box as it is.
 #[derive(Drop)]
 pub struct Part {
-    pub tree: Expr,
+    pub tree: Boxed<Expr>,
     pub span: Span,
 }
 
 impl Part {
     /// The tree alone.
     pub fn into_tree(self) -> Expr
+        ensures { result ≡ self.tree }
+    {
+        self.into_boxed().into_inner()
+    }
+
+    /// The tree alone, in its box.
+    pub fn into_boxed(self) -> Boxed<Expr>
         ensures { result ≡ self.tree }
     {
         let Part { tree, span: _ } = self;
@@ -50,13 +58,11 @@ pub struct Bounds {
 }
 
 /// The part of a tree with no parentheses around it.
-pub fn bare(span: Span, kind: ExprKind) -> Part
-    ensures { result ≡ node span kind }
+pub fn bare(alloc: Global, span: Span, kind: ExprKind) -> Result<Part, ReadFault>
+    ensures { GivesNext result (node span kind) }
 {
-    Part {
-        tree: Expr { span, kind },
-        span,
-    }
+    let tree = Boxed::new(alloc, Expr { span, kind })?;
+    Ok(Part { tree, span })
 }
 
 /// The two parts, joined by the operator between them.
@@ -64,9 +70,8 @@ pub fn binary(alloc: Global, operator: Operator, left: Part, right: Part) -> Res
     ensures { GivesNext result (joined operator left right) }
 {
     let span = across(left.span, right.span);
-    let left = Boxed::new(alloc, left.into_tree())?;
-    let right = Boxed::new(alloc, right.into_tree())?;
-    Ok(bare(span, ExprKind::Binary(operator, left, right)))
+    let kind = ExprKind::Binary(operator, left.into_boxed(), right.into_boxed());
+    bare(alloc, span, kind)
 }
 
 /// The negation of a part by the `!` that stands at `first`.
@@ -74,8 +79,7 @@ pub fn opposite(alloc: Global, first: Span, inner: Part) -> Result<Part, ReadFau
     ensures { GivesNext result (negated first inner) }
 {
     let Part { tree, span } = inner;
-    let tree = Boxed::new(alloc, tree)?;
-    Ok(bare(across(first, span), ExprKind::Not(tree)))
+    bare(alloc, across(first, span), ExprKind::Not(tree))
 }
 
 /// A part with the sign that stands at `first`.
@@ -83,8 +87,7 @@ pub fn negative(alloc: Global, first: Span, inner: Part) -> Result<Part, ReadFau
     ensures { GivesNext result (signed first inner) }
 {
     let Part { tree, span } = inner;
-    let tree = Boxed::new(alloc, tree)?;
-    Ok(bare(across(first, span), ExprKind::Minus(tree)))
+    bare(alloc, across(first, span), ExprKind::Minus(tree))
 }
 
 /// A part in the parentheses that stand at `first` and `last`.
@@ -92,7 +95,7 @@ pub fn widened(first: Span, last: Span, inner: Part) -> Part
     ensures { result ≡ widened_of first last inner }
 {
     Part {
-        tree: inner.into_tree(),
+        tree: inner.into_boxed(),
         span: across(first, last),
     }
 }
@@ -102,8 +105,7 @@ pub fn field(alloc: Global, receiver: Part, word: Word) -> Result<Part, ReadFaul
     ensures { GivesNext result (field_of receiver word) }
 {
     let Part { tree, span } = receiver;
-    let tree = Boxed::new(alloc, tree)?;
-    Ok(bare(across(span, word.span), ExprKind::Field(tree, word)))
+    bare(alloc, across(span, word.span), ExprKind::Field(tree, word))
 }
 
 /// An element of an array. The bracket behind the index stands at `last`.
@@ -111,9 +113,8 @@ pub fn element(alloc: Global, array: Part, index: Part, last: Span) -> Result<Pa
     ensures { GivesNext result (element_of array index last) }
 {
     let Part { tree, span } = array;
-    let array = Boxed::new(alloc, tree)?;
-    let index = Boxed::new(alloc, index.into_tree())?;
-    Ok(bare(across(span, last), ExprKind::Index(array, index)))
+    let kind = ExprKind::Index(tree, index.into_boxed());
+    bare(alloc, across(span, last), kind)
 }
 
 /// A chain as an expression.
@@ -123,7 +124,7 @@ pub fn part_of(alloc: Global, chain: Chain) -> Result<Part, ReadFault>
     match chain {
         Chain::Named(receiver, word) => match receiver {
             Some(part) => field(alloc, part, word),
-            None => Ok(bare(word.span, ExprKind::Var(word))),
+            None => bare(alloc, word.span, ExprKind::Var(word)),
         },
         Chain::Other(part) => Ok(part),
     }
@@ -152,10 +153,10 @@ pub fn instance(
     let span = across(start_of(&receiver, word), last);
     match receiver {
         Some(part) => {
-            let tree = Boxed::new(alloc, part.into_tree())?;
-            Ok(bare(span, ExprKind::Instance(Some(tree), word, args)))
+            let kind = ExprKind::Instance(Some(part.into_boxed()), word, args);
+            bare(alloc, span, kind)
         }
-        None => Ok(bare(span, ExprKind::Instance(None, word, args))),
+        None => bare(alloc, span, ExprKind::Instance(None, word, args)),
     }
 }
 
@@ -163,8 +164,8 @@ pub fn instance(
 pub fn old(alloc: Global, first: Span, inner: Part, last: Span) -> Result<Part, ReadFault>
     ensures { GivesNext result (old_of first inner last) }
 {
-    let tree = Boxed::new(alloc, inner.into_tree())?;
-    Ok(bare(across(first, last), ExprKind::Old(tree)))
+    let kind = ExprKind::Old(inner.into_boxed());
+    bare(alloc, across(first, last), kind)
 }
 
 /// A permission, from the word at `first` to the bracket at `last`.
@@ -177,9 +178,9 @@ pub fn permission(
 ) -> Result<Part, ReadFault>
     ensures { GivesNext result (perm_of first inner amount last) }
 {
-    let tree = Boxed::new(alloc, inner.into_tree())?;
+    let tree = inner.into_boxed();
     let kind = ExprKind::Perm(tree, amount.parts, amount.whole, amount.span);
-    Ok(bare(across(first, last), kind))
+    bare(alloc, across(first, last), kind)
 }
 
 /// A token of a thread or of a lock, from the word at `first` to the bracket at `last`.
@@ -192,8 +193,8 @@ pub fn held(
 ) -> Result<Part, ReadFault>
     ensures { GivesNext result (token_part token first inner last) }
 {
-    let tree = Boxed::new(alloc, inner.into_tree())?;
-    Ok(bare(across(first, last), ExprKind::Token(token, tree)))
+    let kind = ExprKind::Token(token, inner.into_boxed());
+    bare(alloc, across(first, last), kind)
 }
 
 /// A quantified formula in the brackets at `first` and `last`.
@@ -209,16 +210,13 @@ pub fn each(
     ensures { GivesNext result (each_of star first name bounds body last) }
 {
     let Bounds { low, high, written } = bounds;
-    let low = Boxed::new(alloc, low.into_tree())?;
-    let high = Boxed::new(alloc, high.into_tree())?;
-    let body = Boxed::new(alloc, body.into_tree())?;
     let each = Each {
         star,
         name,
-        low,
-        high,
-        body,
+        low: low.into_boxed(),
+        high: high.into_boxed(),
+        body: body.into_boxed(),
         written,
     };
-    Ok(bare(across(first, last), ExprKind::Each(each)))
+    bare(alloc, across(first, last), ExprKind::Each(each))
 }

@@ -166,8 +166,8 @@ fn post<'a>(
         Some((word, behind)) => walk(alloc, mode, Chain::Named(None, word), behind, room),
         None => match after(tokens, THIS) {
             Some((span, behind)) => {
-                let this = Chain::Other(bare(span, ExprKind::This));
-                walk(alloc, mode, this, behind, room)
+                let this = bare(alloc, span, ExprKind::This)?;
+                walk(alloc, mode, Chain::Other(this), behind, room)
             }
             None => {
                 let (first, rest) = atom(alloc, mode, tokens, room)?;
@@ -382,7 +382,10 @@ fn atom<'a>(
     ensures { Gives (λ x. x.0) (λ x. x.1.now) result (reading.atom mode (reading.deeper room) tokens.now) }
 {
     match constant(tokens) {
-        Some((part, rest)) => Ok((Chain::Other(part), rest)),
+        Some((kind, span, rest)) => {
+            let part = bare(alloc, span, kind)?;
+            Ok((Chain::Other(part), rest))
+        }
         None => match mode {
             Mode::Program => group(alloc, tokens, room),
             Mode::Logic => logic_atom(alloc, tokens, room),
@@ -416,7 +419,10 @@ fn logic_atom<'a>(
     ensures { Gives (λ x. x.0) (λ x. x.1.now) result (reading.logic_atom (reading.deeper room) tokens.now) }
 {
     match after(tokens, RESULT) {
-        Some((span, behind)) => Ok((Chain::Other(bare(span, ExprKind::Result)), behind)),
+        Some((span, behind)) => {
+            let part = bare(alloc, span, ExprKind::Result)?;
+            Ok((Chain::Other(part), behind))
+        }
         None => match after(tokens, OLD) {
             Some((first, behind)) => old_value(alloc, first, behind, room),
             None => match after(tokens, PERM) {

@@ -16,7 +16,7 @@ use pv_base::{Name, Span};
 use pv_reading::{ReadFault, expected, expected_name};
 use pv_tokens::Lexeme;
 use pv_tokens::fixed::{CLASS, OPEN_BRACE};
-use sqlite_items::Items;
+use sqlite_items::{Boxed, Items};
 use std::alloc::Global;
 
 /// What follows the word `class`, in a class that begins at `first`.
@@ -24,17 +24,18 @@ use std::alloc::Global;
 fn class_end<'a>(
     alloc: Global,
     first: Span,
-    lock_invariant: Option<Expr>,
+    lock_invariant: Option<Boxed<Expr>>,
     tokens: &'a [Lexeme],
     room: u32,
-) -> Result<(Class, &'a [Lexeme]), ReadFault>
+) -> Result<(Boxed<Class>, &'a [Lexeme]), ReadFault>
     ensures { Gives (λ x. x.0) (λ x. x.1.now) result (reading.class_end (deeper_blocks room) first lock_invariant tokens.now) }
 {
     let (name, rest) = expected_name(tokens)?;
     let (_, rest) = expected(rest, OPEN_BRACE)?;
     let inner = inside_blocks(room, rest)?;
     let (members, last, rest) = members(alloc, rest, inner)?;
-    Ok((class_at(first, lock_invariant, name, members, last), rest))
+    let class = Boxed::new(alloc, class_at(first, lock_invariant, name, members, last))?;
+    Ok((class, rest))
 }
 
 /// What follows the first word of a class, which stands at `first`.
@@ -45,13 +46,13 @@ fn class_from<'a>(
     first: Span,
     tokens: &'a [Lexeme],
     room: u32,
-) -> Result<(Class, &'a [Lexeme]), ReadFault>
+) -> Result<(Boxed<Class>, &'a [Lexeme]), ReadFault>
     ensures { Gives (λ x. x.0) (λ x. x.1.now) result (reading.class_from (deeper room) (deeper_blocks room) locks first tokens.now) }
 {
     if locks {
         let (formula, _, rest) = formula_end(alloc, tokens, room)?;
         let (_, rest) = expected(rest, CLASS)?;
-        class_end(alloc, first, Some(formula.into_tree()), rest, room)
+        class_end(alloc, first, Some(formula.into_boxed()), rest, room)
     } else {
         class_end(alloc, first, None, tokens, room)
     }
@@ -71,7 +72,7 @@ fn classes<'a>(
         match class_word(rest) {
             Some((locks, first, behind)) => {
                 let (next, behind) = class_from(alloc, locks, first, behind, room)?;
-                found.push(next)?;
+                found.push(next.into_inner())?;
                 rest = behind;
             }
             None => return Ok((found, rest)),

@@ -25,7 +25,7 @@ use pv_tokens::fixed::{
     ASSIGN, CLOSE_BRACE, CLOSE_PAREN, COLON, COMMA, LOOP_INVARIANT, OPEN_BRACE, OPEN_PAREN,
     SEMICOLON, THIS,
 };
-use sqlite_items::Items;
+use sqlite_items::{Boxed, Items};
 use std::alloc::Global;
 
 /// What follows the type and the name of a declaration.
@@ -36,15 +36,20 @@ fn local_end<'a>(
     name: Word,
     tokens: &'a [Lexeme],
     room: u32,
-) -> Result<(Stmt, &'a [Lexeme]), ReadFault>
+) -> Result<(Boxed<Stmt>, &'a [Lexeme]), ReadFault>
     ensures { Gives (λ x. x.0) (λ x. x.1.now) result (reading.local_end (deeper room) kind name tokens.now) }
 {
     match after(tokens, SEMICOLON) {
-        Some((last, rest)) => Ok((local_statement(kind, name, None, last), rest)),
+        Some((last, rest)) => {
+            let statement = Boxed::new(alloc, local_statement(kind, name, None, last))?;
+            Ok((statement, rest))
+        }
         None => {
             let (_, rest) = expected(tokens, ASSIGN)?;
             let (value, last, rest) = right_end(alloc, rest, room)?;
-            Ok((local_statement(kind, name, Some(value), last), rest))
+            let statement = local_statement(kind, name, Some(value), last);
+            let statement = Boxed::new(alloc, statement)?;
+            Ok((statement, rest))
         }
     }
 }
@@ -57,7 +62,7 @@ pub fn local<'a>(
     first: Span,
     tokens: &'a [Lexeme],
     room: u32,
-) -> Result<(Stmt, &'a [Lexeme]), ReadFault>
+) -> Result<(Boxed<Stmt>, &'a [Lexeme]), ReadFault>
     ensures { Gives (λ x. x.0) (λ x. x.1.now) result (reading.local (deeper room) base first tokens.now) }
 {
     let (kind, rest) = type_from(base, first, tokens, room)?;
@@ -71,12 +76,13 @@ fn assigned<'a>(
     place: Chain,
     tokens: &'a [Lexeme],
     room: u32,
-) -> Result<(Stmt, &'a [Lexeme]), ReadFault>
+) -> Result<(Boxed<Stmt>, &'a [Lexeme]), ReadFault>
     ensures { Gives (λ x. x.0) (λ x. x.1.now) result (reading.assigned (deeper room) place tokens.now) }
 {
     let (value, last, rest) = right_end(alloc, tokens, room)?;
     let place = part_of(alloc, place)?;
-    Ok((assign_statement(place, value, last), rest))
+    let statement = Boxed::new(alloc, assign_statement(place, value, last))?;
+    Ok((statement, rest))
 }
 
 /// An assignment behind its place, or a call behind its target.
@@ -86,7 +92,7 @@ fn place_or_call<'a>(
     chain: Chain,
     tokens: &'a [Lexeme],
     room: u32,
-) -> Result<(Stmt, &'a [Lexeme]), ReadFault>
+) -> Result<(Boxed<Stmt>, &'a [Lexeme]), ReadFault>
     ensures { Gives (λ x. x.0) (λ x. x.1.now) result (reading.place_or_call (deeper room) chain tokens.now) }
 {
     match chain {
@@ -96,7 +102,9 @@ fn place_or_call<'a>(
                 let (_, rest) = expected(tokens, OPEN_PAREN)?;
                 let inner = inside(room, rest)?;
                 let (args, last, rest) = call_end(alloc, rest, inner)?;
-                Ok((call_statement(receiver, name, args, last), rest))
+                let statement = call_statement(receiver, name, args, last);
+                let statement = Boxed::new(alloc, statement)?;
+                Ok((statement, rest))
             }
         },
         Chain::Other(place) => {
@@ -113,7 +121,7 @@ pub fn name_statement<'a>(
     first: Word,
     tokens: &'a [Lexeme],
     room: u32,
-) -> Result<(Stmt, &'a [Lexeme]), ReadFault>
+) -> Result<(Boxed<Stmt>, &'a [Lexeme]), ReadFault>
     ensures { Gives (λ x. x.0) (λ x. x.1.now) result (reading.name_stmt (deeper room) first tokens.now) }
 {
     match named(tokens) {
@@ -133,10 +141,11 @@ pub fn this_statement<'a>(
     first: Span,
     tokens: &'a [Lexeme],
     room: u32,
-) -> Result<(Stmt, &'a [Lexeme]), ReadFault>
+) -> Result<(Boxed<Stmt>, &'a [Lexeme]), ReadFault>
     ensures { Gives (λ x. x.0) (λ x. x.1.now) result (reading.this_stmt (deeper room) first tokens.now) }
 {
-    let (chain, rest) = read_some_steps(alloc, Mode::Program, this_at(first), tokens, room)?;
+    let this = this_at(alloc, first)?;
+    let (chain, rest) = read_some_steps(alloc, Mode::Program, this, tokens, room)?;
     place_or_call(alloc, chain, rest, room)
 }
 
@@ -146,11 +155,11 @@ pub fn invariant<'a>(
     alloc: Global,
     tokens: &'a [Lexeme],
     room: u32,
-) -> Result<(Expr, &'a [Lexeme]), ReadFault>
+) -> Result<(Boxed<Expr>, &'a [Lexeme]), ReadFault>
     ensures { Gives (λ x. x.0) (λ x. x.1.now) result (reading.invariant (deeper room) tokens.now) }
 {
     let (formula, _, rest) = formula_end(alloc, tokens, room)?;
-    Ok((formula.into_tree(), rest))
+    Ok((formula.into_boxed(), rest))
 }
 
 /// Invariants behind those found so far, as long as another begins.
@@ -168,7 +177,7 @@ pub fn invariants<'a>(
         match after(rest, LOOP_INVARIANT) {
             Some((_, behind)) => {
                 let (next, behind) = invariant(alloc, behind, room)?;
-                all.push(next)?;
+                all.push(next.into_inner())?;
                 rest = behind;
             }
             None => return Ok((all, rest)),
@@ -183,7 +192,7 @@ pub fn barrier<'a>(
     first: Span,
     tokens: &'a [Lexeme],
     room: u32,
-) -> Result<(Stmt, &'a [Lexeme]), ReadFault>
+) -> Result<(Boxed<Stmt>, &'a [Lexeme]), ReadFault>
     ensures { Gives (λ x. x.0) (λ x. x.1.now) result (reading.barrier (deeper room) (reading.deeper_blocks room) first tokens.now) }
 {
     let (_, rest) = expected(tokens, OPEN_PAREN)?;
@@ -194,7 +203,9 @@ pub fn barrier<'a>(
     let inner = inside_blocks(room, rest)?;
     let (clauses, rest) = read_clauses(alloc, Items::new(alloc), rest, inner)?;
     let (last, rest) = expected(rest, CLOSE_BRACE)?;
-    Ok((barrier_statement(first, label, clauses, last), rest))
+    let statement = barrier_statement(first, label, clauses, last);
+    let statement = Boxed::new(alloc, statement)?;
+    Ok((statement, rest))
 }
 
 /// What follows the word of an action, which stands at `first`.
@@ -205,11 +216,12 @@ pub fn action<'a>(
     first: Span,
     tokens: &'a [Lexeme],
     room: u32,
-) -> Result<(Stmt, &'a [Lexeme]), ReadFault>
+) -> Result<(Boxed<Stmt>, &'a [Lexeme]), ReadFault>
     ensures { Gives (λ x. x.0) (λ x. x.1.now) result (reading.action (deeper room) kind first tokens.now) }
 {
     let (object, last, rest) = expr_end(alloc, tokens, room)?;
-    Ok((action_statement(kind, first, object, last), rest))
+    let statement = Boxed::new(alloc, action_statement(kind, first, object, last))?;
+    Ok((statement, rest))
 }
 
 /// What follows the target of a folding.
@@ -221,7 +233,7 @@ fn folding_from<'a>(
     target: Chain,
     tokens: &'a [Lexeme],
     room: u32,
-) -> Result<(Stmt, &'a [Lexeme]), ReadFault>
+) -> Result<(Boxed<Stmt>, &'a [Lexeme]), ReadFault>
     ensures { Gives (λ x. x.0) (λ x. x.1.now) result (reading.folding_from (deeper room) unfolds first target tokens.now) }
 {
     match target {
@@ -230,6 +242,7 @@ fn folding_from<'a>(
             let inner = inside(room, rest)?;
             let (args, last, rest) = call_end(alloc, rest, inner)?;
             let statement = folding_statement(unfolds, first, receiver, name, args, last);
+            let statement = Boxed::new(alloc, statement)?;
             Ok((statement, rest))
         }
         Chain::Other(_) => Err(ReadFault::Unexpected(tokens.len())),
@@ -244,7 +257,7 @@ pub fn folding<'a>(
     first: Span,
     tokens: &'a [Lexeme],
     room: u32,
-) -> Result<(Stmt, &'a [Lexeme]), ReadFault>
+) -> Result<(Boxed<Stmt>, &'a [Lexeme]), ReadFault>
     ensures { Gives (λ x. x.0) (λ x. x.1.now) result (reading.folding (deeper room) unfolds first tokens.now) }
 {
     match named(tokens) {
@@ -255,7 +268,7 @@ pub fn folding<'a>(
         }
         None => {
             let (this, rest) = expected(tokens, THIS)?;
-            let this = this_at(this);
+            let this = this_at(alloc, this)?;
             let (target, rest) = read_some_steps(alloc, Mode::Program, this, rest, room)?;
             folding_from(alloc, unfolds, first, target, rest, room)
         }
@@ -269,11 +282,12 @@ pub fn assertion<'a>(
     first: Span,
     tokens: &'a [Lexeme],
     room: u32,
-) -> Result<(Stmt, &'a [Lexeme]), ReadFault>
+) -> Result<(Boxed<Stmt>, &'a [Lexeme]), ReadFault>
     ensures { Gives (λ x. x.0) (λ x. x.1.now) result (reading.assertion (deeper room) first tokens.now) }
 {
     let (claim, last, rest) = formula_end(alloc, tokens, room)?;
-    Ok((assert_statement(first, claim, last), rest))
+    let statement = Boxed::new(alloc, assert_statement(first, claim, last))?;
+    Ok((statement, rest))
 }
 
 /// What follows the `send` at `first`.
@@ -283,7 +297,7 @@ pub fn send<'a>(
     first: Span,
     tokens: &'a [Lexeme],
     room: u32,
-) -> Result<(Stmt, &'a [Lexeme]), ReadFault>
+) -> Result<(Boxed<Stmt>, &'a [Lexeme]), ReadFault>
     ensures { Gives (λ x. x.0) (λ x. x.1.now) result (reading.send (deeper room) first tokens.now) }
 {
     let (label, rest) = expected_name(tokens)?;
@@ -292,17 +306,23 @@ pub fn send<'a>(
     let (_, rest) = expected(rest, COLON)?;
     let (message, last, rest) = formula_end(alloc, rest, room)?;
     let statement = send_statement(first, label, distance, message, last);
+    let statement = Boxed::new(alloc, statement)?;
     Ok((statement, rest))
 }
 
 /// What follows the `recv` at `first`.
 #[tactic(auto, unfolding(crate::specs::Reading::recv))]
-pub fn recv(first: Span, tokens: &[Lexeme]) -> Result<(Stmt, &[Lexeme]), ReadFault>
+pub fn recv(
+    alloc: Global,
+    first: Span,
+    tokens: &[Lexeme],
+) -> Result<(Boxed<Stmt>, &[Lexeme]), ReadFault>
     ensures { Gives (λ x. x.0) (λ x. x.1.now) result (reading.recv first tokens.now) }
 {
     let (label, rest) = expected_name(tokens)?;
     let (last, rest) = expected(rest, SEMICOLON)?;
-    Ok((recv_statement(first, label, last), rest))
+    let statement = Boxed::new(alloc, recv_statement(first, label, last))?;
+    Ok((statement, rest))
 }
 
 /// What follows the `return` at `first`.
@@ -312,14 +332,19 @@ pub fn returned<'a>(
     first: Span,
     tokens: &'a [Lexeme],
     room: u32,
-) -> Result<(Stmt, &'a [Lexeme]), ReadFault>
+) -> Result<(Boxed<Stmt>, &'a [Lexeme]), ReadFault>
     ensures { Gives (λ x. x.0) (λ x. x.1.now) result (reading.returned (deeper room) first tokens.now) }
 {
     match after(tokens, SEMICOLON) {
-        Some((last, rest)) => Ok((return_statement(first, None, last), rest)),
+        Some((last, rest)) => {
+            let statement = Boxed::new(alloc, return_statement(first, None, last))?;
+            Ok((statement, rest))
+        }
         None => {
             let (value, last, rest) = expr_end(alloc, tokens, room)?;
-            Ok((return_statement(first, Some(value.into_tree()), last), rest))
+            let statement = return_statement(first, Some(value.into_boxed()), last);
+            let statement = Boxed::new(alloc, statement)?;
+            Ok((statement, rest))
         }
     }
 }

@@ -18,7 +18,7 @@ use pv_clauses::{clause_word, read_clause, read_clauses};
 use pv_reading::{ReadFault, after, expected, expected_name};
 use pv_tokens::Lexeme;
 use pv_tokens::fixed::{ASSIGN, CLOSE_BRACE, RESOURCE, RUN, SEMICOLON, VOID};
-use sqlite_items::Items;
+use sqlite_items::{Boxed, Items};
 use std::alloc::Global;
 
 /// The type of what a method returns.
@@ -45,12 +45,13 @@ fn method_end<'a>(
     name: Word,
     tokens: &'a [Lexeme],
     room: u32,
-) -> Result<(Member, &'a [Lexeme]), ReadFault>
+) -> Result<(Boxed<Member>, &'a [Lexeme]), ReadFault>
     ensures { Gives (λ x. x.0) (λ x. x.1.now) result (reading.method_end (deeper_blocks room) first clauses result_type name tokens.now) }
 {
     let (params, rest) = params(alloc, tokens, room)?;
     let (body, last, rest) = block(alloc, rest, room)?;
     let method = method_of(first, clauses, result_type, name, params, body, last);
+    let method = Boxed::new(alloc, method)?;
     Ok((method, rest))
 }
 
@@ -63,11 +64,12 @@ fn run_end<'a>(
     word: Span,
     tokens: &'a [Lexeme],
     room: u32,
-) -> Result<(Member, &'a [Lexeme]), ReadFault>
+) -> Result<(Boxed<Member>, &'a [Lexeme]), ReadFault>
     ensures { Gives (λ x. x.0) (λ x. x.1.now) result (reading.run_end (deeper_blocks room) first clauses word tokens.now) }
 {
     let (body, last, rest) = block(alloc, tokens, room)?;
-    Ok((run_of(first, clauses, word, body, last), rest))
+    let run = Boxed::new(alloc, run_of(first, clauses, word, body, last))?;
+    Ok((run, rest))
 }
 
 /// What follows a contract with a clause at least.
@@ -78,7 +80,7 @@ fn contracted<'a>(
     clauses: Clauses,
     tokens: &'a [Lexeme],
     room: u32,
-) -> Result<(Member, &'a [Lexeme]), ReadFault>
+) -> Result<(Boxed<Member>, &'a [Lexeme]), ReadFault>
     ensures { Gives (λ x. x.0) (λ x. x.1.now) result (reading.contracted (deeper room) (deeper_blocks room) first clauses tokens.now) }
 {
     match after(tokens, RUN) {
@@ -99,12 +101,12 @@ fn contract_member<'a>(
     first: Span,
     tokens: &'a [Lexeme],
     room: u32,
-) -> Result<(Member, &'a [Lexeme]), ReadFault>
+) -> Result<(Boxed<Member>, &'a [Lexeme]), ReadFault>
     ensures { Gives (λ x. x.0) (λ x. x.1.now) result (reading.contract_member (deeper room) (deeper_blocks room) kind first tokens.now) }
 {
     let (clause, rest) = read_clause(alloc, kind, tokens, room)?;
     let mut found = Items::new(alloc);
-    found.push(clause)?;
+    found.push(clause.into_inner())?;
     let (clauses, rest) = read_clauses(alloc, found, rest, room)?;
     contracted(alloc, first, clauses, rest, room)
 }
@@ -116,14 +118,15 @@ fn predicate<'a>(
     first: Span,
     tokens: &'a [Lexeme],
     room: u32,
-) -> Result<(Member, &'a [Lexeme]), ReadFault>
+) -> Result<(Boxed<Member>, &'a [Lexeme]), ReadFault>
     ensures { Gives (λ x. x.0) (λ x. x.1.now) result (reading.predicate (deeper room) (deeper_blocks room) first tokens.now) }
 {
     let (name, rest) = expected_name(tokens)?;
     let (params, rest) = params(alloc, rest, room)?;
     let (_, rest) = expected(rest, ASSIGN)?;
     let (body, last, rest) = formula_end(alloc, rest, room)?;
-    Ok((predicate_of(first, name, params, body, last), rest))
+    let predicate = Boxed::new(alloc, predicate_of(first, name, params, body, last))?;
+    Ok((predicate, rest))
 }
 
 /// What follows the type and the name of a field or a method.
@@ -134,11 +137,14 @@ fn typed<'a>(
     name: Word,
     tokens: &'a [Lexeme],
     room: u32,
-) -> Result<(Member, &'a [Lexeme]), ReadFault>
+) -> Result<(Boxed<Member>, &'a [Lexeme]), ReadFault>
     ensures { Gives (λ x. x.0) (λ x. x.1.now) result (reading.typed (deeper_blocks room) kind name tokens.now) }
 {
     match after(tokens, SEMICOLON) {
-        Some((_, rest)) => Ok((Member::Field(param_of(kind, name)), rest)),
+        Some((_, rest)) => {
+            let field = Boxed::new(alloc, Member::Field(param_of(kind, name)))?;
+            Ok((field, rest))
+        }
         None => {
             let none = Items::new(alloc);
             method_end(alloc, kind.span, none, Some(kind), name, tokens, room)
@@ -152,7 +158,7 @@ fn typed_member<'a>(
     alloc: Global,
     tokens: &'a [Lexeme],
     room: u32,
-) -> Result<(Member, &'a [Lexeme]), ReadFault>
+) -> Result<(Boxed<Member>, &'a [Lexeme]), ReadFault>
     ensures { Gives (λ x. x.0) (λ x. x.1.now) result (reading.typed_member (deeper room) (deeper_blocks room) tokens.now) }
 {
     let (kind, rest) = type_word(tokens, room)?;
@@ -165,7 +171,7 @@ fn member<'a>(
     alloc: Global,
     tokens: &'a [Lexeme],
     room: u32,
-) -> Result<(Member, &'a [Lexeme]), ReadFault>
+) -> Result<(Boxed<Member>, &'a [Lexeme]), ReadFault>
     ensures { Gives (λ x. x.0) (λ x. x.1.now) result (reading.member (deeper room) (deeper_blocks room) tokens.now) }
 {
     if let Some((kind, first, rest)) = clause_word(tokens) {
@@ -201,7 +207,7 @@ pub fn members<'a>(
             Some((last, behind)) => return Ok((found, last, behind)),
             None => {
                 let (next, behind) = member(alloc, rest, room)?;
-                found.push(next)?;
+                found.push(next.into_inner())?;
                 rest = behind;
             }
         }

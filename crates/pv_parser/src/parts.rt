@@ -12,6 +12,7 @@ use pv_exprs::{Mode, Part, inside, read_args, read_expression, read_formula};
 use pv_reading::{ReadFault, expected, expected_name};
 use pv_tokens::Lexeme;
 use pv_tokens::fixed::{ASSIGN, CLOSE_PAREN, DOTS, INT, OPEN_PAREN, SEMICOLON};
+use sqlite_items::Boxed;
 use std::alloc::Global;
 
 /// A condition in parentheses.
@@ -36,7 +37,7 @@ fn range_in<'a>(
     alloc: Global,
     tokens: &'a [Lexeme],
     room: u32,
-) -> Result<(Range, &'a [Lexeme]), ReadFault>
+) -> Result<(Boxed<Range>, &'a [Lexeme]), ReadFault>
     ensures { Gives (λ x. x.0) (λ x. x.1.now) result (reading.range_in (readers (deeper room)) tokens.now) }
 {
     let (_, rest) = expected(tokens, INT)?;
@@ -46,7 +47,8 @@ fn range_in<'a>(
     let (_, rest) = expected(rest, DOTS)?;
     let (high, rest) = read_expression(alloc, Mode::Program, rest, room)?;
     let (_, rest) = expected(rest, CLOSE_PAREN)?;
-    Ok((range_of(name, low, high), rest))
+    let range = Boxed::new(alloc, range_of(name, low, high))?;
+    Ok((range, rest))
 }
 
 /// A range in parentheses.
@@ -55,7 +57,7 @@ pub fn range<'a>(
     alloc: Global,
     tokens: &'a [Lexeme],
     room: u32,
-) -> Result<(Range, &'a [Lexeme]), ReadFault>
+) -> Result<(Boxed<Range>, &'a [Lexeme]), ReadFault>
     ensures { Gives (λ x. x.0) (λ x. x.1.now) result (reading.range (deeper room) tokens.now) }
 {
     let (_, rest) = expected(tokens, OPEN_PAREN)?;

@@ -1,7 +1,7 @@
 //! Right sides of declarations and assignments. Each function reads one rule, where so many constructs (`room`) may still be
 //! opened, and returns what it read and the tokens behind.
 ghost use Rattle.std.specs.Prelude.{◌≡◌};
-ghost use Rattle.pv_reading.specs.Given.{Gives};
+ghost use Rattle.pv_reading.specs.Given.{Gives, GivesNext};
 ghost use Rattle.pv_exprs.specs.Reading.{deeper};
 ghost use Rattle.pv_exprs.specs.Trees as parts;
 ghost use Rattle.pv_exprs.specs.declared.part.Chain.TheVariants as chain;
@@ -20,17 +20,16 @@ use pv_tokens::Lexeme;
 use pv_tokens::fixed::{
     CLOSE_BRACKET, CLOSE_PAREN, NEW, OPEN_BRACKET, OPEN_PAREN, SEMICOLON, THIS,
 };
+use sqlite_items::Boxed;
 use std::alloc::Global;
 
 /// The word `this` that stands there.
-pub fn this_at(span: Span) -> Chain
-    ensures { result ≡ chain.Other (parts.node span e.This) }
+pub fn this_at(alloc: Global, span: Span) -> Result<Chain, ReadFault>
+    ensures { GivesNext result (chain.Other (parts.node span e.This)) }
 {
-    let tree = Expr {
-        span,
-        kind: ExprKind::This,
-    };
-    Chain::Other(Part { tree, span })
+    let kind = ExprKind::This;
+    let tree = Boxed::new(alloc, Expr { span, kind })?;
+    Ok(Chain::Other(Part { tree, span }))
 }
 
 /// An expression whose first unary one is `left`.
@@ -40,11 +39,12 @@ fn value_from<'a>(
     left: Part,
     tokens: &'a [Lexeme],
     room: u32,
-) -> Result<(Right, &'a [Lexeme]), ReadFault>
+) -> Result<(Boxed<Right>, &'a [Lexeme]), ReadFault>
     ensures { Gives (λ x. x.0) (λ x. x.1.now) result (reading.value_from (deeper room) left tokens.now) }
 {
     let (value, rest) = rest_of_expression(alloc, Mode::Program, left, tokens, room)?;
-    Ok((value_of(value), rest))
+    let value = Boxed::new(alloc, value_of(value))?;
+    Ok((value, rest))
 }
 
 /// A call, or an expression, that begins with a chain.
@@ -54,7 +54,7 @@ fn right_from<'a>(
     chain: Chain,
     tokens: &'a [Lexeme],
     room: u32,
-) -> Result<(Right, &'a [Lexeme]), ReadFault>
+) -> Result<(Boxed<Right>, &'a [Lexeme]), ReadFault>
     ensures { Gives (λ x. x.0) (λ x. x.1.now) result (reading.right_from (deeper room) chain tokens.now) }
 {
     match chain {
@@ -62,7 +62,8 @@ fn right_from<'a>(
             Some((_, rest)) => {
                 let inner = inside(room, rest)?;
                 let (args, last, rest) = read_args(alloc, Mode::Program, rest, inner)?;
-                Ok((called(receiver, name, args, last), rest))
+                let call = Boxed::new(alloc, called(receiver, name, args, last))?;
+                Ok((call, rest))
             }
             None => {
                 let left = part_of(alloc, Chain::Named(receiver, name))?;
@@ -80,7 +81,7 @@ fn right_walk<'a>(
     first: Chain,
     tokens: &'a [Lexeme],
     room: u32,
-) -> Result<(Right, &'a [Lexeme]), ReadFault>
+) -> Result<(Boxed<Right>, &'a [Lexeme]), ReadFault>
     ensures { Gives (λ x. x.0) (λ x. x.1.now) result (reading.right_walk (deeper room) first tokens.now) }
 {
     let (chain, rest) = read_steps(alloc, Mode::Program, first, tokens, room)?;
@@ -94,7 +95,7 @@ fn made<'a>(
     first: Span,
     tokens: &'a [Lexeme],
     room: u32,
-) -> Result<(Right, &'a [Lexeme]), ReadFault>
+) -> Result<(Boxed<Right>, &'a [Lexeme]), ReadFault>
     ensures { Gives (λ x. x.0) (λ x. x.1.now) result (reading.made (deeper room) first tokens.now) }
 {
     match named(tokens) {
@@ -102,7 +103,8 @@ fn made<'a>(
             let (_, rest) = expected(rest, OPEN_PAREN)?;
             inside(room, rest)?;
             let (last, rest) = expected(rest, CLOSE_PAREN)?;
-            Ok((new_object(first, class, last), rest))
+            let object = Boxed::new(alloc, new_object(first, class, last))?;
+            Ok((object, rest))
         }
         None => match base_word(tokens) {
             Some((base, word, rest)) => {
@@ -110,7 +112,9 @@ fn made<'a>(
                 let inner = inside(room, rest)?;
                 let (length, rest) = read_expression(alloc, Mode::Program, rest, inner)?;
                 let (last, rest) = expected(rest, CLOSE_BRACKET)?;
-                Ok((new_array(first, plain_type(base, word), length, last), rest))
+                let array = new_array(first, plain_type(base, word), length, last);
+                let array = Boxed::new(alloc, array)?;
+                Ok((array, rest))
             }
             None => Err(ReadFault::Unexpected(tokens.len())),
         },
@@ -122,7 +126,7 @@ fn right<'a>(
     alloc: Global,
     tokens: &'a [Lexeme],
     room: u32,
-) -> Result<(Right, &'a [Lexeme]), ReadFault>
+) -> Result<(Boxed<Right>, &'a [Lexeme]), ReadFault>
     ensures { Gives (λ x. x.0) (λ x. x.1.now) result (reading.right (deeper room) tokens.now) }
 {
     match after(tokens, NEW) {
@@ -130,10 +134,14 @@ fn right<'a>(
         None => match named(tokens) {
             Some((name, rest)) => right_walk(alloc, Chain::Named(None, name), rest, room),
             None => match after(tokens, THIS) {
-                Some((first, rest)) => right_walk(alloc, this_at(first), rest, room),
+                Some((first, rest)) => {
+                    let this = this_at(alloc, first)?;
+                    right_walk(alloc, this, rest, room)
+                }
                 None => {
                     let (value, rest) = read_expression(alloc, Mode::Program, tokens, room)?;
-                    Ok((value_of(value), rest))
+                    let value = Boxed::new(alloc, value_of(value))?;
+                    Ok((value, rest))
                 }
             },
         },
@@ -146,7 +154,7 @@ pub fn right_end<'a>(
     alloc: Global,
     tokens: &'a [Lexeme],
     room: u32,
-) -> Result<(Right, Span, &'a [Lexeme]), ReadFault>
+) -> Result<(Boxed<Right>, Span, &'a [Lexeme]), ReadFault>
     ensures { Gives (λ x. (x.0, x.1)) (λ x. x.2.now) result (reading.right_end (deeper room) tokens.now) }
 {
     let (value, rest) = right(alloc, tokens, room)?;

@@ -26,7 +26,7 @@ use pv_tokens::fixed::{
     LOCK, LOOP_INVARIANT, OPEN_BRACE, PAR, RECV, RETURN, SEND, THIS, UNFOLD, UNLOCK, WHILE,
 };
 use pv_tokens::{Lexeme, LexemeKind};
-use sqlite_items::Items;
+use sqlite_items::{Boxed, Items};
 use std::alloc::Global;
 
 /// A statement, by its first token.
@@ -35,7 +35,7 @@ fn statement<'a>(
     alloc: Global,
     tokens: &'a [Lexeme],
     room: u32,
-) -> Result<(Stmt, &'a [Lexeme]), ReadFault>
+) -> Result<(Boxed<Stmt>, &'a [Lexeme]), ReadFault>
     ensures { Gives (λ x. x.0) (λ x. x.1.now) result (reading.stmt (deeper room) (deeper_blocks room) tokens.now) }
 {
     match first_token(tokens) {
@@ -68,7 +68,7 @@ fn statement<'a>(
                 UNFOLD => folding(alloc, true, first.span, rest, room),
                 ASSERT => assertion(alloc, first.span, rest, room),
                 SEND => send(alloc, first.span, rest, room),
-                RECV => recv(first.span, rest),
+                RECV => recv(alloc, first.span, rest),
                 RETURN => returned(alloc, first.span, rest, room),
                 _ => Err(ReadFault::Unexpected(tokens.len())),
             },
@@ -85,7 +85,7 @@ fn choice<'a>(
     first: Span,
     tokens: &'a [Lexeme],
     room: u32,
-) -> Result<(Stmt, &'a [Lexeme]), ReadFault>
+) -> Result<(Boxed<Stmt>, &'a [Lexeme]), ReadFault>
     ensures { Gives (λ x. x.0) (λ x. x.1.now) result (reading.choice (deeper room) (deeper_blocks room) first tokens.now) }
 {
     let (condition, rest) = condition(alloc, tokens, room)?;
@@ -104,15 +104,16 @@ fn else_from<'a>(
     last: Span,
     tokens: &'a [Lexeme],
     room: u32,
-) -> Result<(Stmt, &'a [Lexeme]), ReadFault>
+) -> Result<(Boxed<Stmt>, &'a [Lexeme]), ReadFault>
     ensures { Gives (λ x. x.0) (λ x. x.1.now) result (reading.else_from (deeper_blocks room) first condition yes last tokens.now) }
 {
     match after(tokens, ELSE) {
         Some((_, rest)) => otherwise(alloc, first, condition, yes, rest, room),
-        None => Ok((
-            if_statement(first, condition, yes, Items::new(alloc), last),
-            tokens,
-        )),
+        None => {
+            let statement = if_statement(first, condition, yes, Items::new(alloc), last);
+            let statement = Boxed::new(alloc, statement)?;
+            Ok((statement, tokens))
+        }
     }
 }
 
@@ -126,21 +127,23 @@ fn otherwise<'a>(
     yes: Block,
     tokens: &'a [Lexeme],
     room: u32,
-) -> Result<(Stmt, &'a [Lexeme]), ReadFault>
+) -> Result<(Boxed<Stmt>, &'a [Lexeme]), ReadFault>
     ensures { Gives (λ x. x.0) (λ x. x.1.now) result (reading.otherwise (deeper_blocks room) first condition yes tokens.now) }
 {
     match after(tokens, IF) {
         Some((second, rest)) => {
             let inner = inside_blocks(room, rest)?;
             let (other, rest) = choice(alloc, second, rest, inner)?;
-            let last = other.span;
+            let last = other.get().span;
             let mut no = Items::new(alloc);
-            no.push(other)?;
-            Ok((if_statement(first, condition, yes, no, last), rest))
+            no.push(other.into_inner())?;
+            let statement = Boxed::new(alloc, if_statement(first, condition, yes, no, last))?;
+            Ok((statement, rest))
         }
         None => {
             let (no, last, rest) = block(alloc, tokens, room)?;
-            Ok((if_statement(first, condition, yes, no, last), rest))
+            let statement = Boxed::new(alloc, if_statement(first, condition, yes, no, last))?;
+            Ok((statement, rest))
         }
     }
 }
@@ -154,12 +157,13 @@ fn while_end<'a>(
     invariants: Formulas,
     tokens: &'a [Lexeme],
     room: u32,
-) -> Result<(Stmt, &'a [Lexeme]), ReadFault>
+) -> Result<(Boxed<Stmt>, &'a [Lexeme]), ReadFault>
     ensures { Gives (λ x. x.0) (λ x. x.1.now) result (reading.while_end (deeper room) (deeper_blocks room) first invariants tokens.now) }
 {
     let (condition, rest) = condition(alloc, tokens, room)?;
     let (body, last, rest) = block(alloc, rest, room)?;
     let statement = while_statement(first, invariants, condition, body, last);
+    let statement = Boxed::new(alloc, statement)?;
     Ok((statement, rest))
 }
 
@@ -171,12 +175,12 @@ fn invariant_loop<'a>(
     first: Span,
     tokens: &'a [Lexeme],
     room: u32,
-) -> Result<(Stmt, &'a [Lexeme]), ReadFault>
+) -> Result<(Boxed<Stmt>, &'a [Lexeme]), ReadFault>
     ensures { Gives (λ x. x.0) (λ x. x.1.now) result (reading.invariant_loop (deeper room) (deeper_blocks room) first tokens.now) }
 {
     let (formula, rest) = invariant(alloc, tokens, room)?;
     let mut found = Items::new(alloc);
-    found.push(formula)?;
+    found.push(formula.into_inner())?;
     let (invariants, rest) = invariants(alloc, found, rest, room)?;
     let (_, rest) = expected(rest, WHILE)?;
     while_end(alloc, first, invariants, rest, room)
@@ -190,13 +194,14 @@ fn counted<'a>(
     first: Span,
     tokens: &'a [Lexeme],
     room: u32,
-) -> Result<(Stmt, &'a [Lexeme]), ReadFault>
+) -> Result<(Boxed<Stmt>, &'a [Lexeme]), ReadFault>
     ensures { Gives (λ x. x.0) (λ x. x.1.now) result (reading.counted (deeper room) (deeper_blocks room) first tokens.now) }
 {
     let (range, rest) = range(alloc, tokens, room)?;
     let (clauses, rest) = read_clauses(alloc, Items::new(alloc), rest, room)?;
     let (body, last, rest) = block(alloc, rest, room)?;
-    Ok((for_statement(first, range, clauses, body, last), rest))
+    let statement = Boxed::new(alloc, for_statement(first, range, clauses, body, last))?;
+    Ok((statement, rest))
 }
 
 /// What follows the `par` at `first`.
@@ -207,7 +212,7 @@ fn parallel<'a>(
     first: Span,
     tokens: &'a [Lexeme],
     room: u32,
-) -> Result<(Stmt, &'a [Lexeme]), ReadFault>
+) -> Result<(Boxed<Stmt>, &'a [Lexeme]), ReadFault>
     ensures { Gives (λ x. x.0) (λ x. x.1.now) result (reading.parallel (deeper room) (deeper_blocks room) first tokens.now) }
 {
     match named(tokens) {
@@ -225,13 +230,14 @@ fn parallel_end<'a>(
     label: Option<Word>,
     tokens: &'a [Lexeme],
     room: u32,
-) -> Result<(Stmt, &'a [Lexeme]), ReadFault>
+) -> Result<(Boxed<Stmt>, &'a [Lexeme]), ReadFault>
     ensures { Gives (λ x. x.0) (λ x. x.1.now) result (reading.parallel_end (deeper room) (deeper_blocks room) first label tokens.now) }
 {
     let (range, rest) = range(alloc, tokens, room)?;
     let (clauses, rest) = read_clauses(alloc, Items::new(alloc), rest, room)?;
     let (body, last, rest) = block(alloc, rest, room)?;
     let statement = par_statement(first, label, range, clauses, body, last);
+    let statement = Boxed::new(alloc, statement)?;
     Ok((statement, rest))
 }
 
@@ -266,7 +272,7 @@ fn statements<'a>(
             Some((last, behind)) => return Ok((found, last, behind)),
             None => {
                 let (next, behind) = statement(alloc, rest, room)?;
-                found.push(next)?;
+                found.push(next.into_inner())?;
                 rest = behind;
             }
         }

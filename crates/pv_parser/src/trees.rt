@@ -11,6 +11,7 @@ use pv_ast::{
 use pv_base::Span;
 use pv_exprs::{Part, start_of};
 use pv_reading::across;
+use sqlite_items::Boxed;
 
 /// The type whose one word stands at `first`.
 pub fn plain_type(base: Base, first: Span) -> TypeWord
@@ -54,6 +55,15 @@ pub fn param_of(kind: TypeWord, name: Word) -> Param
     Param { name, kind }
 }
 
+fn unboxed<T>(boxed: Option<Boxed<T>>) -> Option<T>
+    ensures { result ≡ boxed }
+{
+    match boxed {
+        Some(boxed) => Some(boxed.into_inner()),
+        None => None,
+    }
+}
+
 fn tree_of(part: Option<Part>) -> Option<Expr>
     ensures { result ≡ parts.tree_of part }
 {
@@ -70,7 +80,7 @@ pub fn value_of(value: Part) -> Right
     let Part { tree, span } = value;
     Right {
         span,
-        kind: RightKind::Value(tree),
+        kind: RightKind::Value(tree.into_inner()),
     }
 }
 
@@ -126,18 +136,20 @@ fn statement_of(first: Span, last: Span, kind: StmtKind) -> Stmt
 }
 
 /// A declaration, up to the semicolon at `last`.
-pub fn local_statement(kind: TypeWord, name: Word, value: Option<Right>, last: Span) -> Stmt
+pub fn local_statement(kind: TypeWord, name: Word, value: Option<Boxed<Right>>, last: Span) -> Stmt
     ensures { result ≡ trees.local_stmt kind name value last }
 {
-    statement_of(kind.span, last, StmtKind::Local(kind, name, value))
+    let local = StmtKind::Local(kind, name, unboxed(value));
+    statement_of(kind.span, last, local)
 }
 
 /// An assignment, up to the semicolon at `last`.
-pub fn assign_statement(place: Part, value: Right, last: Span) -> Stmt
+pub fn assign_statement(place: Part, value: Boxed<Right>, last: Span) -> Stmt
     ensures { result ≡ trees.assign_stmt place value last }
 {
     let Part { tree, span } = place;
-    statement_of(span, last, StmtKind::Assign(tree, value))
+    let kind = StmtKind::Assign(tree.into_inner(), value.into_inner());
+    statement_of(span, last, kind)
 }
 
 /// A call, up to the semicolon at `last`.
@@ -170,29 +182,32 @@ pub fn while_statement(
 }
 
 /// A loop over a range, from the `for` at `first` up to the end of its body at `last`.
-pub fn for_statement(first: Span, range: Range, clauses: Clauses, body: Block, last: Span) -> Stmt
+pub fn for_statement(
+    first: Span,
+    range: Boxed<Range>,
+    clauses: Clauses,
+    body: Block,
+    last: Span,
+) -> Stmt
     ensures { result ≡ trees.for_stmt first range clauses body last }
 {
-    statement_of(
-        first,
-        last,
-        StmtKind::For(range, Contract { clauses }, body),
-    )
+    let kind = StmtKind::For(range.into_inner(), Contract { clauses }, body);
+    statement_of(first, last, kind)
 }
 
 /// A parallel block, from the `par` at `first` up to its end at `last`.
 pub fn par_statement(
     first: Span,
     label: Option<Word>,
-    range: Range,
+    range: Boxed<Range>,
     clauses: Clauses,
     body: Block,
     last: Span,
 ) -> Stmt
     ensures { result ≡ trees.par_stmt first label range clauses body last }
 {
-    let contract = Contract { clauses };
-    statement_of(first, last, StmtKind::Par(label, range, contract, body))
+    let kind = StmtKind::Par(label, range.into_inner(), Contract { clauses }, body);
+    statement_of(first, last, kind)
 }
 
 /// A barrier, from its first word at `first` up to the brace at `last`.
@@ -260,10 +275,10 @@ pub fn recv_statement(first: Span, label: Word, last: Span) -> Stmt
 }
 
 /// A return, from the `return` at `first` up to the semicolon at `last`.
-pub fn return_statement(first: Span, value: Option<Expr>, last: Span) -> Stmt
+pub fn return_statement(first: Span, value: Option<Boxed<Expr>>, last: Span) -> Stmt
     ensures { result ≡ trees.return_stmt first value last }
 {
-    statement_of(first, last, StmtKind::Return(value))
+    statement_of(first, last, StmtKind::Return(unboxed(value)))
 }
 
 /// A predicate, from the `resource` at `first` up to the semicolon at `last`.
@@ -315,7 +330,7 @@ pub fn run_of(first: Span, clauses: Clauses, word: Span, body: Block, last: Span
 /// A class that begins at `first`, up to the brace at `last`.
 pub fn class_at(
     first: Span,
-    lock_invariant: Option<Expr>,
+    lock_invariant: Option<Boxed<Expr>>,
     name: Word,
     members: Members,
     last: Span,
@@ -325,7 +340,7 @@ pub fn class_at(
     Class {
         span: across(first, last),
         name,
-        lock_invariant,
+        lock_invariant: unboxed(lock_invariant),
         members,
     }
 }

@@ -1,5 +1,6 @@
-use Rattle.std.proofs.Common.{rules, arith, ◌∙◌}
+use Rattle.std.proofs.Common.{rules, arith, [], ◌∷◌, ◌++◌, ap, ◌∙◌}
 use Rattle.std.proofs.lemmas.Grind.{common_steps}
+use Rattle.pv_ast.specs.declared.Clause.{Clause}
 use Rattle.pv_clauses.proofs.Clauses as clauses
 use Rattle.pv_clauses.proofs.reading.read_clauses.Goals as goal
 
@@ -16,7 +17,8 @@ found-smaller c =
 pub found-preserved : goal.found-preserved
 found-preserved c =
     c.found.invariant ∙ clauses.clauses_step c.args.room c.found.rest.now _ _ _ c.in-Some.ensures c.found.all _
-    c.in_ok-next-in-Some.behind.now c.in_ok-next-in-Some.next c.in_ok-next-in-Some.ensures c.in_ok-push-in-Some.ensures.ok
+    c.in_ok-next-in-Some.behind.now c.in_ok-next-in-Some.next c.in_ok-next-in-Some.ensures
+    (c.in_ok-push-in-Some.ensures.ok ∙ ap (λ (x : Clause). c.found.all ++ x ∷ []) c.into_inner.ensures)
 
 pub returns-in-None : goal.returns-in-None
 returns-in-None c = c.found.invariant ∙ clauses.clauses_end c.args.room c.found.all c.found.rest.now c.in-None.ensures

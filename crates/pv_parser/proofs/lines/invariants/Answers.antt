@@ -1,5 +1,6 @@
-use Rattle.std.proofs.Common.{rules, arith, ◌∙◌}
+use Rattle.std.proofs.Common.{rules, arith, [], ◌∷◌, ◌++◌, ap, ◌∙◌}
 use Rattle.std.proofs.lemmas.Grind.{common_steps}
+use Rattle.pv_ast.specs.declared.Expr.{Expr}
 use Rattle.pv_parser.proofs.Turns as turns
 use Rattle.pv_parser.proofs.lines.invariants.Goals as goal
 
@@ -16,7 +17,8 @@ found-smaller c =
 pub found-preserved : goal.found-preserved
 found-preserved c =
     c.found.invariant ∙ turns.invariants_step c.args.room c.found.rest.now _ _ c.in-Some.ensures c.found.all _
-    c.in_ok-next-in-Some.behind.now c.in_ok-next-in-Some.next c.in_ok-next-in-Some.ensures c.in_ok-push-in-Some.ensures.ok
+    c.in_ok-next-in-Some.behind.now c.in_ok-next-in-Some.next c.in_ok-next-in-Some.ensures
+    (c.in_ok-push-in-Some.ensures.ok ∙ ap (λ (e : Expr). c.found.all ++ e ∷ []) c.into_inner.ensures)
 
 pub returns-in-None : goal.returns-in-None
 returns-in-None c = c.found.invariant ∙ turns.invariants_end c.args.room c.found.all c.found.rest.now c.in-None.ensures

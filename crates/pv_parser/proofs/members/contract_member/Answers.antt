@@ -7,5 +7,6 @@ use Rattle.pv_parser.proofs.members.contract_member.Goals as goal
 pub returns : goal.returns
 unfolding reading.contract_member
 returns c =
-    let all = c.in_ok-push.ensures.ok ∙ ap (λ (z : List Clause). z ++ c.in_ok-clause.clause ∷ []) c.new-found.ensures in
+    let all = c.in_ok-push.ensures.ok ∙ ap (λ (z : List Clause). z ++ c.into_inner.result ∷ []) c.new-found.ensures
+    ∙ ap (λ (x : Clause). [] ++ x ∷ []) c.into_inner.ensures in
     rw (c.in_ok-clause.ensures, ← all, c.in_ok-clauses.ensures) (first_of (search rules, grind (arith, common_steps)))

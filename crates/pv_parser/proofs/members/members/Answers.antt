@@ -1,5 +1,6 @@
-use Rattle.std.proofs.Common.{rules, arith, ◌∙◌}
+use Rattle.std.proofs.Common.{rules, arith, [], ◌∷◌, ◌++◌, ap, ◌∙◌}
 use Rattle.std.proofs.lemmas.Grind.{common_steps}
+use Rattle.pv_ast.specs.declared.Member.{Member}
 use Rattle.pv_tokens.specs.declared.fixed.TheConstants.{CLOSE_BRACE}
 use Rattle.pv_exprs.specs.Reading.{deeper}
 use Rattle.pv_reading.proofs.Turns as lists
@@ -30,4 +31,5 @@ pub found-preserved : goal.found-preserved
 found-preserved c =
     c.found.invariant ∙ lists.many_step CLOSE_BRACE (member (deeper c.args.room) (deeper_blocks c.args.room))
     (member_eats c.args.room) c.found.found c.found.rest.now _ c.in_ok-next-in-None.behind.now c.in_ok-next-in-None.next
-    c.in-None.ensures c.in_ok-next-in-None.ensures c.in_ok-push-in-None.ensures.ok
+    c.in-None.ensures c.in_ok-next-in-None.ensures
+    (c.in_ok-push-in-None.ensures.ok ∙ ap (λ (x : Member). c.found.found ++ x ∷ []) c.into_inner.ensures)

@@ -17,9 +17,9 @@ returns-in_err-last-in-Some-base_word c =
     )
     (first_of (search rules, grind (arith, common_steps)))
 
-pub returns-in_ok-last-in-Some-base_word : goal.returns-in_ok-last-in-Some-base_word
+pub returns-in_ok-array-in-Some-base_word : goal.returns-in_ok-array-in-Some-base_word
 unfolding reading.made
-returns-in_ok-last-in-Some-base_word c =
+returns-in_ok-array-in-Some-base_word c =
     rw (
       passed _ _ c.in-None.ensures,
       picked _ _ _ _ _ c.in-Some-base_word.ensures,

@@ -3,6 +3,7 @@ use Rattle.std.proofs.lemmas.Grind.{common_steps}
 use Rattle.pv_tokens.specs.declared.fixed.TheConstants.{CLOSE_BRACE}
 use Rattle.pv_exprs.specs.Reading.{deeper}
 use Rattle.pv_ast.specs.declared.Expr.{Expr}
+use Rattle.pv_ast.specs.declared.Stmt.{Stmt}
 use Rattle.pv_reading.proofs.Steps.{picked}
 use Rattle.pv_reading.proofs.Turns as lists
 use Rattle.pv_parser.specs.Reading as reading
@@ -33,7 +34,8 @@ pub statements-found-preserved : goal.statements-found-preserved
 statements-found-preserved t c =
     c.found.invariant ∙ lists.many_step CLOSE_BRACE (stmt (deeper c.args.room) (deeper_blocks c.args.room))
     (stmt_eats c.args.room) c.found.found c.found.rest.now _ c.in_ok-next-in-None.behind.now c.in_ok-next-in-None.next
-    c.in-None.ensures c.in_ok-next-in-None.ensures c.in_ok-push-in-None.ensures.ok
+    c.in-None.ensures c.in_ok-next-in-None.ensures
+    (c.in_ok-push-in-None.ensures.ok ∙ ap (λ (s : Stmt). c.found.found ++ s ∷ []) c.into_inner.ensures)
 
 pub counted-returns-in_err-body : goal.counted-returns-in_err-body
 unfolding reading.counted
@@ -60,7 +62,8 @@ parallel_end-returns t c =
 pub invariant_loop-returns : goal.invariant_loop-returns
 unfolding reading.invariant_loop
 invariant_loop-returns t c =
-    let all = c.in_ok-push.ensures.ok ∙ ap (λ (z : List Expr). z ++ c.in_ok-formula.formula ∷ []) c.new-found.ensures in
+    let all = c.in_ok-push.ensures.ok ∙ ap (λ (z : List Expr). z ++ c.into_inner.result ∷ []) c.new-found.ensures
+    ∙ ap (λ (e : Expr). [] ++ e ∷ []) c.into_inner.ensures in
     rw (c.in_ok-formula.ensures, ← all, c.in_ok-invariants.ensures, picked _ _ _ _ _ c.in_ok-rest.ensures)
     (first_of (search rules, grind (arith, common_steps)))
 
