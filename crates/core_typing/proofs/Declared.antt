@@ -1,5 +1,5 @@
 -- What the static rules keep of amounts, of declared types, and of the `run` or lock invariant that a token or an action needs.
-use Rattle.std.proofs.Common.{◌≡◌, ◌≤◌, ℕ, ◌*◌, true, ◌&&◌, Option, Some, None, is_some, option_map, List, [], ◌∷◌, refl, sym, ◌∙◌, ap, arith}
+use Rattle.std.proofs.Common.{◌≡◌, ◌≤◌, ℕ, ◌*◌, ◌/◌, true, ◌&&◌, if◌then◌else◌, Option, Some, None, is_some, option_map, List, [], ◌∷◌, refl, sym, ◌∙◌, ap, subst, arith}
 use Rattle.std.proofs.Math.Nat.{div-le_of_le-mul}
 use Rattle.std.proofs.lemmas.Bool.{and_parts}
 use Rattle.std.proofs.lemmas.Nat.{le-div}
@@ -55,10 +55,12 @@ amount_fits checked parts h =
     let both = and_parts (nat_le 1 checked && nat_le checked parts) (nat_le parts 40) h in
     let some : 1 ≤ checked = at_most 1 checked (and_parts (nat_le 1 checked) (nat_le checked parts) both.0).0 in
     let fewer : checked ≤ parts = at_most checked parts (and_parts (nat_le 1 checked) (nat_le checked parts) both.0).1 in
-    let few : parts ≤ 40 = at_most parts 40 both.1 in (
+    let few : parts ≤ 40 = at_most parts 40 both.1 in
+    let as_written : IsAmount (checked * whole / parts) = (
       le-div 1 (checked * whole) parts (omega (arith, some, fewer)) (at_least checked parts whole some few forty),
       div-le_of_le-mul parts (no_more checked parts whole fewer),
-    )
+    ) in
+    subst IsAmount (ap (λ b. if b then checked * whole / parts else 0) (sym h)) as_written
   where
     at_least : (a b w : ℕ) → 1 ≤ a → b ≤ 40 → 40 ≤ w → 1 * b ≤ a * w
     at_least a b w i j k = grind (arith, i, j, k)

@@ -7,26 +7,26 @@ use pv_ast::{Operator, Token};
 /// How a variable is used in an expression: not at all; only in indexes of arrays without it, where it stands with one and
 /// the same number added; or elsewhere too.
 #[derive(Clone, Copy, Drop)]
-pub(crate) enum Uses {
+pub enum Uses {
     Unused,
     Shifted(i128),
     Elsewhere,
 }
 
 impl Uses {
-    pub(crate) fn any(self) -> bool
+    pub fn any(self) -> bool
         ensures { result ≡ items.is_used (uses_as self) }
     {
         !matches!(self, Uses::Unused)
     }
 
-    pub(crate) fn if_any(used: bool) -> Uses
+    pub fn if_any(used: bool) -> Uses
         ensures { uses_as result ≡ items.use_if used }
     {
         if used { Uses::Elsewhere } else { Uses::Unused }
     }
 
-    fn with(self, other: Uses) -> Uses
+    pub fn with(self, other: Uses) -> Uses
         ensures { uses_as result ≡ items.both_uses (uses_as self) (uses_as other) }
     {
         match (self, other) {
@@ -42,7 +42,7 @@ impl Uses {
 /// number added or taken away; an element, at the variable with so much added, of an array without the variable; order
 /// comparisons joined by `&&`; or the variable `== e`, where `e` is without it.
 #[derive(Clone, Copy, Drop)]
-pub(crate) enum Form {
+pub enum Form {
     Variable,
     Literal(u64),
     Shift(i128),
@@ -53,26 +53,26 @@ pub(crate) enum Form {
 }
 
 impl Form {
-    pub(crate) fn is_variable(self) -> bool
+    pub fn is_variable(self) -> bool
         ensures { result ≡ items.is_variable (form_as self) }
     {
         matches!(self, Form::Variable)
     }
 
-    pub(crate) fn is_guard(self) -> bool
+    pub fn is_guard(self) -> bool
         ensures { result ≡ items.is_guard (form_as self) }
     {
         matches!(self, Form::Guard)
     }
 
-    pub(crate) fn is_fixing(self) -> bool
+    pub fn is_fixing(self) -> bool
         ensures { result ≡ items.is_fixing (form_as self) }
     {
         matches!(self, Form::Fixing)
     }
 
     /// Whether it may be the first part of a permission.
-    pub(crate) fn is_element(self) -> bool
+    pub fn is_element(self) -> bool
         ensures { result ≡ is_some (items.item_of_location (form_as self)) }
     {
         matches!(self, Form::Element(_))
@@ -117,16 +117,16 @@ impl Form {
 /// What an expression shows of a variable. It is `pure` where it has no permission, token, instance or quantifier, and a
 /// `truth` where it has no permission, token, instance or `\forall*`.
 #[derive(Clone, Copy, Drop)]
-pub(crate) struct Facts {
-    pub(crate) uses: Uses,
-    pub(crate) form: Form,
-    pub(crate) pure: bool,
-    pub(crate) truth: bool,
+pub struct Facts {
+    pub uses: Uses,
+    pub form: Form,
+    pub pure: bool,
+    pub truth: bool,
 }
 
 impl Facts {
     /// Of an atom other than the variable.
-    pub(crate) fn of_word(form: Form) -> Facts
+    pub fn of_word(form: Form) -> Facts
         ensures { facts_as result ≡ items.facts_of_word (form_as form) }
     {
         Facts {
@@ -138,7 +138,7 @@ impl Facts {
     }
 
     /// Of a variable, which is the one or another.
-    pub(crate) fn of_variable(same: bool) -> Facts
+    pub fn of_variable(same: bool) -> Facts
         ensures { facts_as result ≡ items.facts_of_variable same }
     {
         if same {
@@ -154,7 +154,7 @@ impl Facts {
     }
 
     /// Of a permission, a token or an instance.
-    pub(crate) fn of_resource(used: bool) -> Facts
+    pub fn of_resource(used: bool) -> Facts
         ensures { facts_as result ≡ items.facts_of_resource used }
     {
         Facts {
@@ -166,7 +166,7 @@ impl Facts {
     }
 
     /// Of a quantifier.
-    pub(crate) fn of_quantifier(star: bool, used: bool) -> Facts
+    pub fn of_quantifier(star: bool, used: bool) -> Facts
         ensures { facts_as result ≡ items.facts_of_quantifier star used }
     {
         Facts {
@@ -178,7 +178,7 @@ impl Facts {
     }
 
     /// Of an expression of one part, which shows these.
-    pub(crate) fn environment(self) -> Facts
+    pub fn environment(self) -> Facts
         ensures { facts_as result ≡ items.facts_in_environment (facts_as self) }
     {
         Facts {
@@ -190,7 +190,7 @@ impl Facts {
     }
 
     /// Of an element of an array.
-    pub(crate) fn of_element(array: Facts, index: Facts) -> Facts
+    pub fn of_element(array: Facts, index: Facts) -> Facts
         ensures { facts_as result ≡ items.facts_of_index (facts_as array) (facts_as index) }
     {
         Facts {
@@ -202,7 +202,7 @@ impl Facts {
     }
 
     /// Of an operator between two parts.
-    pub(crate) fn of_operator(operator: Operator, a: Facts, b: Facts) -> Facts
+    pub fn of_operator(operator: Operator, a: Facts, b: Facts) -> Facts
         ensures { facts_as result ≡ items.facts_of_operator operator (facts_as a) (facts_as b) }
     {
         Facts {
@@ -214,14 +214,14 @@ impl Facts {
     }
 
     /// Whether the variable isn't used.
-    pub(crate) fn is_term(self) -> bool
+    pub fn is_term(self) -> bool
         ensures { result ≡ items.is_term (facts_as self) }
     {
         !self.uses.any()
     }
 
     /// Whether it is an item by being pure.
-    pub(crate) fn is_pure_item(self) -> bool
+    pub fn is_pure_item(self) -> bool
         ensures { result ≡ is_some (items.item_of_pure (facts_as self)) }
     {
         self.pure && !matches!(self.uses, Uses::Elsewhere)
@@ -262,7 +262,7 @@ fn is_variable_and_term(a: Facts, b: Facts) -> bool
 }
 
 /// Whether one is the variable and the other is without it.
-pub(crate) fn has_variable_and_term(a: Facts, b: Facts) -> bool
+pub fn has_variable_and_term(a: Facts, b: Facts) -> bool
     ensures { result ≡ items.has_variable_and_term (facts_as a) (facts_as b) }
 {
     is_variable_and_term(a, b) || is_variable_and_term(b, a)
@@ -289,7 +289,7 @@ fn form_of_operator(operator: Operator, a: Facts, b: Facts) -> Form
 }
 
 /// Whether `committed` or another token on such an operand is an item.
-pub(crate) fn is_token_item(token: Token, operand: Facts) -> bool
+pub fn is_token_item(token: Token, operand: Facts) -> bool
     ensures { result ≡ is_some (items.item_of_token token (facts_as operand)) }
 {
     matches!(token, Token::Committed) && operand.is_term()

@@ -4,7 +4,7 @@
 #![tactic(auto)]
 
 mod expressions;
-mod facts;
+pub mod facts;
 mod firsts;
 mod formulas;
 mod parts;

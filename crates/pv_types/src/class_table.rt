@@ -35,7 +35,7 @@ impl<'a> Model for ClassEntry<'a> {
 
 impl<'a> ClassEntry<'a> {
     /// The entry of a class, made in one pass over its members.
-    pub(crate) fn new(alloc: Global, class: &'a Class) -> Result<ClassEntry<'a>, NoMemory>
+    pub fn new(alloc: Global, class: &'a Class) -> Result<ClassEntry<'a>, NoMemory>
         ensures { IfOk result (λ e. e ≡ class.now) }
     {
         let members = MemberIndex::of(alloc, class.members.as_slice())?;

@@ -13,7 +13,7 @@ use pv_base::Name;
 /// What stands around an expression: the classes of the program, the class of `this` (under its name, and where that is
 /// declared), and the type of `\result`.
 #[derive(Clone, Copy, Drop)]
-pub(crate) struct Environment<'a> {
+pub struct Environment<'a> {
     pub table: &'a ClassTable<'a>,
     pub class: Name,
     pub here: Option<&'a ClassEntry<'a>>,
@@ -22,7 +22,7 @@ pub(crate) struct Environment<'a> {
 
 /// Where a member is looked up: nowhere, since the part has no class type; in a class that isn't declared; or in a class.
 #[derive(Clone, Copy, Drop)]
-pub(crate) enum Holder<'a> {
+pub enum Holder<'a> {
     Nowhere,
     Missing,
     Found(&'a ClassEntry<'a>),
@@ -31,7 +31,7 @@ pub(crate) enum Holder<'a> {
 /// What is known of the parameters of a method or predicate: nothing where it isn't looked up or where it isn't declared, or
 /// the parameters.
 #[derive(Clone, Copy, Drop)]
-pub(crate) enum Signature<'a> {
+pub enum Signature<'a> {
     Unsought,
     Unknown,
     Known(&'a [Param]),
@@ -39,7 +39,7 @@ pub(crate) enum Signature<'a> {
 
 impl<'a> Environment<'a> {
     /// The same in a method with such a result.
-    pub(crate) fn with_result(&self, kind: Option<PvType>) -> Environment<'a>
+    pub fn with_result(&self, kind: Option<PvType>) -> Environment<'a>
         ensures { environment_of result ≡ record (environment_of self.now) { result = kind } }
     {
         Environment {
@@ -51,7 +51,7 @@ impl<'a> Environment<'a> {
     }
 
     /// The class of an object: `this` has the class that stands there, another object the first class of its type's name.
-    pub(crate) fn class_of(&self, this: bool, name: Name) -> Option<&'a ClassEntry<'a>>
+    pub fn class_of(&self, this: bool, name: Name) -> Option<&'a ClassEntry<'a>>
         ensures { option_map (λ c. c.now) result ≡ parts.class_of (environment_of self.now) this name }
     {
         if this {
@@ -62,7 +62,7 @@ impl<'a> Environment<'a> {
     }
 
     /// `this`.
-    pub(crate) fn this(&self) -> Seen
+    pub fn this(&self) -> Seen
         ensures { result ≡ parts.seen_of_target (environment_of self.now) nothing_visible None }
     {
         Seen {
@@ -74,14 +74,14 @@ impl<'a> Environment<'a> {
     }
 
     /// Whether a class is declared.
-    pub(crate) fn is_class(&self, name: Name) -> bool
+    pub fn is_class(&self, name: Name) -> bool
         ensures { result ≡ is_some (lookup.class_named (environment_of self.now).program.classes name) }
     {
         self.table.class_named(name).is_some()
     }
 
     /// Whether a declaration may have a type: one of a class needs the class, and `null` has none that is written.
-    pub(crate) fn is_type(&self, kind: PvType) -> bool
+    pub fn is_type(&self, kind: PvType) -> bool
         ensures { result ≡ lookup.is_declared_type (environment_of self.now).program.classes kind }
     {
         match kind {
@@ -92,7 +92,7 @@ impl<'a> Environment<'a> {
     }
 
     /// Where the members of a part are looked up.
-    pub(crate) fn holder(&self, seen: Seen) -> Holder<'a>
+    pub fn holder(&self, seen: Seen) -> Holder<'a>
         ensures { members_in result ≡ parts.holder_of (environment_of self.now) seen }
     {
         match seen.typing {
@@ -108,14 +108,14 @@ impl<'a> Environment<'a> {
     }
 
     /// Whether a name is `length`.
-    pub(crate) fn is_length(&self, name: Name) -> bool
+    pub fn is_length(&self, name: Name) -> bool
         ensures { result ≡ parts.is_length (environment_of self.now) name }
     {
         self.table.is_length(name)
     }
 
     /// The type of a field of `this`.
-    pub(crate) fn own_field(&self, name: Name) -> Option<PvType>
+    pub fn own_field(&self, name: Name) -> Option<PvType>
         ensures { result ≡ parts.type_of_field (environment_of self.now).here name }
     {
         match self.here {
@@ -125,14 +125,14 @@ impl<'a> Environment<'a> {
     }
 
     /// Whether the name stands for the length of an array behind such a part.
-    pub(crate) fn is_array_length(&self, name: Name, target: Typing) -> bool
+    pub fn is_array_length(&self, name: Name, target: Typing) -> bool
         ensures { result ≡ parts.is_array_length (environment_of self.now) name target }
     {
         meets(Need::AnArray, target) && self.is_length(name)
     }
 
     /// What is needed before the name of a member.
-    pub(crate) fn need_of_target(&self, name: Name) -> Need
+    pub fn need_of_target(&self, name: Name) -> Need
         ensures { result ≡ parts.need_of_target (environment_of self.now) name }
     {
         if self.is_length(name) {
@@ -156,7 +156,7 @@ impl<'a> Environment<'a> {
     }
 
     /// Whether the part's class is declared and has no `run`.
-    pub(crate) fn lacks_run(&self, seen: Seen) -> bool
+    pub fn lacks_run(&self, seen: Seen) -> bool
         ensures { result ≡ parts.lacks_role lookup.has_run (environment_of self.now) seen }
     {
         match self.declared_class(seen) {
@@ -166,7 +166,7 @@ impl<'a> Environment<'a> {
     }
 
     /// Whether the part's class is declared and has no lock invariant.
-    pub(crate) fn lacks_lock_invariant(&self, seen: Seen) -> bool
+    pub fn lacks_lock_invariant(&self, seen: Seen) -> bool
         ensures { result ≡ parts.lacks_role lookup.has_lock_invariant (environment_of self.now) seen }
     {
         match self.declared_class(seen) {
@@ -176,7 +176,7 @@ impl<'a> Environment<'a> {
     }
 
     /// Whether the part's class is declared and has not what a token speaks of.
-    pub(crate) fn lacks_role(&self, token: Token, seen: Seen) -> bool
+    pub fn lacks_role(&self, token: Token, seen: Seen) -> bool
         ensures { result ≡ parts.lacks_role (parts.has_role token) (environment_of self.now) seen }
     {
         match token {
@@ -188,7 +188,7 @@ impl<'a> Environment<'a> {
 
 impl<'a> Holder<'a> {
     /// The type of a field.
-    pub(crate) fn field_typing(self, name: Name) -> Typing
+    pub fn field_typing(self, name: Name) -> Typing
         ensures { result ≡ parts.typing_of_field_in (members_in self.entry) name }
     {
         match self {
@@ -198,7 +198,7 @@ impl<'a> Holder<'a> {
     }
 
     /// Whether the class has no such field.
-    pub(crate) fn lacks_field(self, name: Name) -> bool
+    pub fn lacks_field(self, name: Name) -> bool
         ensures { result ≡ parts.lacks_field (members_in self.entry) name }
     {
         match self {
@@ -209,7 +209,7 @@ impl<'a> Holder<'a> {
     }
 
     /// What is known of the parameters of a predicate.
-    pub(crate) fn predicate(self, name: Name) -> Signature<'a>
+    pub fn predicate(self, name: Name) -> Signature<'a>
         ensures { signature_of result ≡ parts.predicate_signature (members_in self.entry) name }
     {
         match self {
@@ -223,7 +223,7 @@ impl<'a> Holder<'a> {
     }
 
     /// What is known of the parameters of a method.
-    pub(crate) fn method_signature(self, name: Name) -> Signature<'a>
+    pub fn method_signature(self, name: Name) -> Signature<'a>
         ensures { signature_of result ≡ parts.method_signature (members_in self.entry) name }
     {
         match self {
@@ -236,7 +236,7 @@ impl<'a> Holder<'a> {
         }
     }
 
-    pub(crate) fn method(self, name: Name) -> Option<&'a Method>
+    pub fn method(self, name: Name) -> Option<&'a Method>
         ensures { option_map (λ m. m.now) result ≡ parts.method_in (members_in self.entry) name }
     {
         match self {

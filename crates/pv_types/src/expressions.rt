@@ -27,12 +27,12 @@ use pv_ast::{
 use pv_base::{Name, NoMemory, Span};
 use sqlite_items::Boxed;
 
-pub(crate) const AN_INT: Need = Need::Exactly(PvType::Int);
+pub const AN_INT: Need = Need::Exactly(PvType::Int);
 
-pub(crate) const A_TRUTH: Need = Need::Exactly(PvType::Truth);
+pub const A_TRUTH: Need = Need::Exactly(PvType::Truth);
 
 /// A value that is no place.
-pub(crate) fn value(typing: Typing, local: bool) -> Seen
+pub fn value(typing: Typing, local: bool) -> Seen
     ensures { result ≡ value_seen typing local }
 {
     Seen {
@@ -43,7 +43,7 @@ pub(crate) fn value(typing: Typing, local: bool) -> Seen
     }
 }
 
-pub(crate) fn place(typing: Typing, local: bool) -> Seen
+pub fn place(typing: Typing, local: bool) -> Seen
     ensures { result ≡ place_seen typing local }
 {
     Seen {
@@ -55,14 +55,14 @@ pub(crate) fn place(typing: Typing, local: bool) -> Seen
 }
 
 /// A value of a type, where its part has the one that is needed.
-pub(crate) fn of_part(part: Seen, need: Need, kind: PvType) -> Seen
+pub fn of_part(part: Seen, need: Need, kind: PvType) -> Seen
     ensures { result ≡ value_seen (typing.typed_if (typing.meets need part.typing) kind) part.local }
 {
     value(typed_if(meets(need, part.typing), kind), part.local)
 }
 
 /// A quantified formula over such bounds and of such a body.
-pub(crate) fn quantified_seen(low: Seen, high: Seen, body: Seen) -> Seen
+pub fn quantified_seen(low: Seen, high: Seen, body: Seen) -> Seen
     ensures { result ≡ value_seen (typing.typed_if (typing.both_meet (need.Exactly pv.Int) low.typing high.typing && typing.meets (need.Exactly pv.Truth) body.typing) pv.Truth) (low.local || (high.local || body.local)) }
 {
     let bounds = meets(AN_INT, low.typing) && meets(AN_INT, high.typing);
@@ -201,14 +201,14 @@ fn field(
 }
 
 /// An element of an array.
-pub(crate) fn element(array: Seen, index: Seen) -> Seen
+pub fn element(array: Seen, index: Seen) -> Seen
     ensures { result ≡ place_seen (typing.typing_of_element array.typing index.typing) (array.local || index.local) }
 {
     let typing = typing_of_element(array.typing, index.typing);
     place(typing, array.local || index.local)
 }
 
-pub(crate) fn binary(operator: Operator, left: Seen, right: Seen) -> Seen
+pub fn binary(operator: Operator, left: Seen, right: Seen) -> Seen
     ensures { result ≡ value_seen (typing.typing_of_operator operator left.typing right.typing) (left.local || right.local) }
 {
     let typing = typing_of_operator(operator, left.typing, right.typing);

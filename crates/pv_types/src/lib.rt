@@ -1,11 +1,11 @@
 //! Which static rule a program breaks first, and the type of an expression in a scope.
 #![tactic(auto)]
 
-mod class_table;
+pub mod class_table;
 mod classes;
 mod clauses;
-mod environment;
-mod expressions;
+pub mod environment;
+pub mod expressions;
 mod labels;
 mod lookup;
 mod member_index;
@@ -19,9 +19,9 @@ mod simple;
 mod site;
 mod standing;
 mod statements;
-mod types;
-mod uses;
-mod visible;
+pub mod types;
+pub mod uses;
+pub mod visible;
 mod walk;
 
 ghost use Rattle.std.specs.Prelude.{◌≡◌, None, OnOk, IfOk, IfErr};

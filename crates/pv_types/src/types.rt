@@ -61,7 +61,7 @@ fn accepts(need: Need, kind: PvType) -> bool
 }
 
 /// Whether a part has a type, and one that is needed.
-pub(crate) fn meets(need: Need, found: Typing) -> bool
+pub fn meets(need: Need, found: Typing) -> bool
     ensures { result ≡ typing.meets need found }
 {
     match found {
@@ -72,7 +72,7 @@ pub(crate) fn meets(need: Need, found: Typing) -> bool
 }
 
 /// Notes that a part whose own parts are as they must be has no type, or not the one that is needed.
-pub(crate) fn note_wrong_type(need: Need, found: Typing, first: &mut Option<Fault>, span: Span)
+pub fn note_wrong_type(need: Need, found: Typing, first: &mut Option<Fault>, span: Span)
     ensures { first.new ≡ least first.old (typing.wrong_type need found span) }
 {
     match found {
@@ -83,7 +83,7 @@ pub(crate) fn note_wrong_type(need: Need, found: Typing, first: &mut Option<Faul
 }
 
 /// A type, where what it needs is there.
-pub(crate) fn typed_if(needed: bool, kind: PvType) -> Typing
+pub fn typed_if(needed: bool, kind: PvType) -> Typing
     ensures { result ≡ typing.typed_if needed kind }
 {
     if needed {
@@ -94,7 +94,7 @@ pub(crate) fn typed_if(needed: bool, kind: PvType) -> Typing
 }
 
 /// The type of a part, or what stands for want of one.
-pub(crate) fn typing_or(otherwise: Typing, kind: Option<PvType>) -> Typing
+pub fn typing_or(otherwise: Typing, kind: Option<PvType>) -> Typing
     ensures { result ≡ typing.typing_or otherwise kind }
 {
     match kind {
@@ -104,7 +104,7 @@ pub(crate) fn typing_or(otherwise: Typing, kind: Option<PvType>) -> Typing
 }
 
 /// The type, where there is one.
-pub(crate) fn type_of_typing(found: Typing) -> Option<PvType>
+pub fn type_of_typing(found: Typing) -> Option<PvType>
     ensures { result ≡ typing.type_of_typing found }
 {
     match found {
@@ -136,7 +136,7 @@ fn typing_of_equality(one: Typing, other: Typing) -> Typing
 }
 
 /// What each operand of an operator needs.
-pub(crate) fn need_of_operator(operator: Operator) -> Need
+pub fn need_of_operator(operator: Operator) -> Need
     ensures { result ≡ typing.need_of_operator operator }
 {
     match operator {
@@ -149,7 +149,7 @@ pub(crate) fn need_of_operator(operator: Operator) -> Need
 }
 
 /// The type of an operator over operands of such types.
-pub(crate) fn typing_of_operator(operator: Operator, one: Typing, other: Typing) -> Typing
+pub fn typing_of_operator(operator: Operator, one: Typing, other: Typing) -> Typing
     ensures { result ≡ typing.typing_of_operator operator one other }
 {
     let numbers = meets(Need::Exactly(PvType::Int), one)
@@ -168,7 +168,7 @@ pub(crate) fn typing_of_operator(operator: Operator, one: Typing, other: Typing)
 }
 
 /// The type of an element, where its array and its index have their types.
-pub(crate) fn typing_of_element(array: Typing, at: Typing) -> Typing
+pub fn typing_of_element(array: Typing, at: Typing) -> Typing
     ensures { result ≡ typing.typing_of_element array at }
 {
     let index = meets(Need::Exactly(PvType::Int), at);
@@ -184,7 +184,7 @@ pub(crate) fn typing_of_element(array: Typing, at: Typing) -> Typing
 }
 
 /// The type of an old value.
-pub(crate) fn typing_of_old(found: Typing) -> Typing
+pub fn typing_of_old(found: Typing) -> Typing
     ensures { result ≡ typing.typing_of_old found }
 {
     match found {
@@ -194,7 +194,7 @@ pub(crate) fn typing_of_old(found: Typing) -> Typing
 }
 
 /// The type of a new array of such elements.
-pub(crate) fn typing_of_new_array(element: PvType) -> Typing
+pub fn typing_of_new_array(element: PvType) -> Typing
     ensures { result ≡ typing_of_array element }
 {
     match element {
@@ -205,7 +205,7 @@ pub(crate) fn typing_of_new_array(element: PvType) -> Typing
 }
 
 /// The value of an assignment needs the type of its left side.
-pub(crate) fn need_like(found: Typing) -> Need
+pub fn need_like(found: Typing) -> Need
     ensures { result ≡ need_like_of found }
 {
     match found {
@@ -214,7 +214,7 @@ pub(crate) fn need_like(found: Typing) -> Need
     }
 }
 
-pub(crate) fn need_of_result(result_type: Option<PvType>) -> Need
+pub fn need_of_result(result_type: Option<PvType>) -> Need
     ensures { result ≡ need_of_result_of result_type }
 {
     match result_type {
@@ -224,7 +224,7 @@ pub(crate) fn need_of_result(result_type: Option<PvType>) -> Need
 }
 
 /// Whether an amount of permission is from 1 of 1 to 40 of 40.
-pub(crate) fn is_amount(part: u64, whole: u64) -> bool
+pub fn is_amount(part: u64, whole: u64) -> bool
     ensures { result ≡ typing.is_amount part whole }
 {
     1 <= part && part <= whole && whole <= 40

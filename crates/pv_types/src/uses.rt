@@ -23,13 +23,13 @@ use pv_base::NoMemory;
 /// What arguments are: whether each has a type, and its parameter's where there is one; and whether a local variable stands in
 /// one.
 #[derive(Clone, Copy, Drop)]
-pub(crate) struct ArgsSeen {
+pub struct ArgsSeen {
     pub meet: bool,
     pub local: bool,
 }
 
 /// The type of the next parameter, and the parameters behind it.
-pub(crate) fn next_type(params: &[Param]) -> (Option<PvType>, &[Param])
+pub fn next_type(params: &[Param]) -> (Option<PvType>, &[Param])
     ensures { IsNextType params.now result.0 result.1.now }
 {
     match params.split_first() {
@@ -39,7 +39,7 @@ pub(crate) fn next_type(params: &[Param]) -> (Option<PvType>, &[Param])
 }
 
 /// Whether an argument has its parameter's type, or any where it stands beyond the parameters.
-pub(crate) fn has_type(needed: Option<PvType>, found: Typing) -> bool
+pub fn has_type(needed: Option<PvType>, found: Typing) -> bool
     ensures { result ≡ has_type_of needed found }
 {
     match needed {

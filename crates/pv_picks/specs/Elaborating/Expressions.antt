@@ -13,6 +13,7 @@ use Rattle.pv_ast.specs.declared.Each.{Each, Each-F, fold-Each, map-Each}
 use Rattle.pv_values.specs.declared.value.Value.TheVariants as value
 use Rattle.pv_fraction.specs.Amounts as amounts
 use Rattle.pv_ast.specs.Rules.Scoping.{Visible, variable_named}
+use Rattle.pv_ast.specs.Rules.Typing.{is_amount}
 use Rattle.pv_ast.specs.Rules.Expressions.{Environment, CheckedExpression, CheckedKind, checked_in_kind, checked_in_each, checked_in_expression, typing_in, seen_of_target, with_bound}
 use Rattle.pv_ast.specs.Rules.Items.{Shape, KindShape, EachShape, Form, element, is_guard, is_fixing, keeps_left, facts_in_kind, shape_in_kind, shape_in_each, shape_in_expr}
 use Rattle.pv_picks.specs.Plain.Core.{Expression, Formula, Items, Item}
@@ -142,9 +143,10 @@ is_pure k = (facts_in_kind (shapes_in k) 0).pure
 abbrev pub is_fact : Option Span → Operator → Bool → Bool
 is_fact environment o pure = pure && (is_some environment || not (keeps_left o))
 
--- so many units as so many parts of so many have
+-- so many units as so many parts of so many have; an amount that the static rules refuse has none, as other refused parts become
+-- what stands for no part
 abbrev pub units_of : ℕ → ℕ → ℕ
-units_of checked whole = checked * amounts.whole / whole
+units_of checked whole = if is_amount checked whole then checked * amounts.whole / whole else 0
 
 -- `**` and `&&` of formulas, and a formula behind a condition
 abbrev pub joined : Operator → Option Span → Span → ElaboratedExpression → ElaboratedExpression → Environment → Visible → Formula
