@@ -17,6 +17,7 @@ use Rattle.pv_picks.specs.Judge.Runs.{End, Blocked, Judged, judge, Maps, maps_of
 use Rattle.pv_picks.specs.Lazy.Patterns.{positions_of}
 use Rattle.pv_picks.specs.Lazy.Runs.{taken_in, ranged, Memory, Final, final, LazyEnd, Ends, Unfit, Outcome, OneNumber, OneTurn, at_end, Source, Lazily, testing, lazy, lazy_run, from_picks, element_or, operation_or, value_read, value_used, with_event, remember_event, reads_none, lazy_event, known_if, no_memory}
 use Rattle.judge_laws.specs.Related.{AreRelated}
+use Rattle.judge_laws.proofs.Taking.{throughout}
 use Rattle.judge_laws.specs.Judging.{as_end}
 use Rattle.judge_facts.specs.Finite.{IsOneOf, Goes, AllSpread, JudgesWhereFactsSpread}
 use Rattle.judge_laws.proofs.Statements.{judge_related}
@@ -171,7 +172,7 @@ module _ (maps : Maps) (table : List Entry) where
       ))
 
   pub runs_step : AreRelated (judging maps table) (lazy final S) Steps'
-  runs_step = record {
+  runs_step = throughout _ _ _ (record {
     finished = λ m ps r t l. (λ k i. i, t.1, λ s. refl);
     blocked = λ m ps r t l. absurd (l.0 refl);
     failed = λ check span m ps r t l. (λ k i. i, t.1, λ s. refl);
@@ -187,7 +188,7 @@ module _ (maps : Maps) (table : List Entry) where
     noticing = noticing_steps;
     reading = reading_steps;
     knowing = λ k x y h. known_steps (reads_none k.parts) k x y h;
-  }
+  })
 
 -- blocked, unfit, or neither
 pub by_end : (P : Type 0) (e : LazyEnd) → (as_end e ≡ Blocked → P) → ((e ≡ Ends Blocked → ⊥) × (e ≡ Unfit → ⊥) → P) → P

@@ -15,6 +15,7 @@ use Rattle.pv_picks.specs.Judge.Runs.{Maps, value_of_operation}
 use Rattle.pv_picks.specs.Lazy.Patterns.{Took}
 use Rattle.pv_picks.specs.Lazy.Runs.{taken_in, ranged, Memory, Final, final, at_end, showing, taking, picking, Unfit, OneNumber, OneTurn, ForRange, Source, Lazily, lazy, element_or, operation_or, value_read, value_used, with_event, reads_none, lazy_event, lazy_known}
 use Rattle.judge_laws.specs.Related.{AreRelated}
+use Rattle.judge_laws.proofs.Taking.{throughout}
 use Rattle.judge_laws.proofs.Sources.{lazy_related}
 use Rattle.judge_laws.proofs.Statements.{judge_related}
 use Rattle.judge_facts.proofs.Ways as ways
@@ -104,7 +105,7 @@ module _ (maps : Maps) (table : List Entry) where
       ps
 
   tests_same : AreRelated L L Same
-  tests_same = record {
+  tests_same = throughout _ _ _ (record {
     finished = λ m ps. refl;
     blocked = λ m ps. refl;
     failed = λ check span m ps. refl;
@@ -119,7 +120,7 @@ module _ (maps : Maps) (table : List Entry) where
     noticing = λ e x y h m ps. ap (showing _) (h (record m { events = with_event e m.events }) ps);
     reading = reading_same;
     knowing = λ k x y h. h;
-  }
+  })
 
   lazies_same : AreRelated (lazy final S) (lazy final S) Same
   lazies_same =
@@ -127,12 +128,12 @@ module _ (maps : Maps) (table : List Entry) where
       (λ f g h m ps. h m m ps)
 
   pairs_same : AreRelated T (lazy final S) (λ x y. Same x.0 y)
-  pairs_same = record {
+  pairs_same = throughout _ _ _ (record {
     finished = lazies_same.finished;
     blocked = lazies_same.blocked;
     failed = lazies_same.failed;
-    unfit = lazies_same.unfit;
-    pick = λ ty f g h. lazies_same.pick ty (λ z. (f z).0) g h;
+    unfit = λ m ps. refl;
+    pick = λ ty f g h. pick_same ty (λ z. (f z).0) g h;
     turn = λ f g h. lazies_same.turn (λ n. (f n).0) g h;
     steps = λ n t a x y h. lazies_same.steps n t a x.0 y h;
     using = λ o b c f g h. lazies_same.using o b c (λ z. (f z).0) g h;
@@ -142,7 +143,7 @@ module _ (maps : Maps) (table : List Entry) where
     noticing = λ e x y h. lazies_same.noticing e x.0 y h;
     reading = λ c f g h. lazies_same.reading c (λ v. (f v).0) g h;
     knowing = λ k x y h. lazies_same.knowing k x.0 y h;
-  }
+  })
 
   pub paired : (p : Program) (t : Task) → Same (judge_task T p t).0 (judge_task (lazy final S) p t)
   paired p t = judge_related T (lazy final S) (λ x y. Same x.0 y) pairs_same p t

@@ -3,3 +3,4 @@ pub mod Fair
 pub mod Shapes
 pub mod Carried
 pub mod Reads
+pub mod Without

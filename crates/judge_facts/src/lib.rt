@@ -5,6 +5,7 @@ ghost use Rattle.judge_facts.specs.Carried.{JudgesAsLazyRun, JudgesOnListedNames
 ghost use Rattle.judge_facts.specs.Fair.{FairFactsSpread};
 ghost use Rattle.judge_facts.specs.Finite.{JudgesWhereFactsSpread};
 ghost use Rattle.judge_facts.specs.Reads.{ReadsAtNames, JudgesOnReads};
+ghost use Rattle.judge_facts.specs.Without.{JudgesWithoutFacts, EntersWithoutFacts};
 
 /// Where each fact that a lazy run knows at its end spreads from the named positions, the judge ends as the lazy run does.
 pub fn judges_where_facts_spread()
@@ -39,4 +40,14 @@ pub fn reads_at_names()
 /// On evidence that lists what a drawn run read, and fits what it remembers, the judge ends as the drawn run does.
 pub fn judges_on_reads()
     ensures { JudgesOnReads }
+{}
+
+/// On evidence that is made of a drawn run which comes to know no fact on elements, the judge ends as the drawn run does.
+pub fn judges_without_facts()
+    ensures { JudgesWithoutFacts }
+{}
+
+/// The same up to the first inhale.
+pub fn enters_without_facts()
+    ensures { EntersWithoutFacts }
 {}

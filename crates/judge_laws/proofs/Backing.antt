@@ -14,9 +14,11 @@ use Rattle.pv_picks.specs.Judge.Runs.{Maps, maps_of, value_of_operation}
 use Rattle.pv_picks.specs.Lazy.Patterns.{Shown, Took}
 use Rattle.pv_picks.specs.Lazy.Runs.{taken_in, ranged, Memory, Final, final, UsedFor, Source, Lazily, Unfit, Outcome, Taken, OneNumber, OneTurn, ForRange, with_event, at_end, showing, taking, picking, testing, from_picks, Drawn, from_values, element_or, operation_or, value_read, value_used, no_memory}
 use Rattle.judge_laws.specs.Related.{AreRelated}
+use Rattle.judge_laws.proofs.Taking.{throughout}
 use Rattle.judge_laws.specs.Drawing.{kinds, FitReads, FitsUses, DrawnRunsAsLazy}
 use Rattle.judge_laws.proofs.Sources.{lazy_related}
-use Rattle.judge_laws.proofs.Statements.{judge_related}
+use Rattle.judge_laws.specs.Entering.{DrawnEntersAsLazy}
+use Rattle.judge_laws.proofs.Statements.{judge_related, enter_task_related}
 
 fits_front : (table : List Entry) (us : List UsedFor) (u : UsedFor) → FitsUses table (us ++ u ∷ []) → FitsUses table us
 fits_front table [] u h = tt
@@ -152,7 +154,7 @@ module _ (maps : Maps) (table : List Entry) (values : ℕ → ℤ) (turns : ℕ 
   )
 
   tests_back : AreRelated (testing final One) (testing final Other) Backs
-  tests_back = record {
+  tests_back = throughout _ _ _ (record {
     finished = λ m d. ((λ h. h, λ h. h), λ ps k r u. refl);
     blocked = λ m d. ((λ h. h, λ h. h), λ ps k r u. refl);
     failed = λ check span m d. ((λ h. h, λ h. h), λ ps k r u. refl);
@@ -169,7 +171,7 @@ module _ (maps : Maps) (table : List Entry) (values : ℕ → ℤ) (turns : ℕ 
         (h (record m { events = with_event e m.events }) d);
     reading = reading_backs;
     knowing = λ k x y h. h;
-  }
+  })
 
 pub drawn_runs_as_lazy : DrawnRunsAsLazy
 drawn_runs_as_lazy p unit evidence values turns picks_there reads_there uses_there =
@@ -180,3 +182,14 @@ drawn_runs_as_lazy p unit evidence values turns picks_there reads_there uses_the
     (λ sh mv e f k x y h m d. shown_backs (maps_of evidence.picks) evidence.table values turns (sh m) m (mv m) _ _ (e m) (f m)
     (h (mv m) d)) (λ f g h m d. h m m d))
     p (task_of p unit) no_memory (record { taken = 0; turned = 0 })).1 evidence.picks picks_there reads_there uses_there
+
+-- the same up to the first inhale
+pub drawn_enters_as_lazy : DrawnEntersAsLazy
+drawn_enters_as_lazy p unit evidence values turns picks_there reads_there uses_there =
+    (enter_task_related _ _ (Backs (maps_of evidence.picks) evidence.table values turns)
+    (lazy_related final final (from_picks (maps_of evidence.picks) evidence.table) (from_values values turns)
+    (Backs (maps_of evidence.picks) evidence.table values turns)
+    (tests_back (maps_of evidence.picks) evidence.table values turns)
+    (λ sh mv e f k x y h m d. shown_backs (maps_of evidence.picks) evidence.table values turns (sh m) m (mv m) _ _ (e m) (f m)
+    (h (mv m) d)) (λ f g h m d. h m m d))
+    (task_of p unit) no_memory (record { taken = 0; turned = 0 })).1 evidence.picks picks_there reads_there uses_there

@@ -12,7 +12,7 @@ use Rattle.pv_picks.specs.Judge.Runs.{End, Judged, Maps, judging, judging_tests}
 use Rattle.judge_laws.specs.Related.{AreRelated}
 use Rattle.judge_laws.specs.Direct.{Gone, Goes, Directly, direct_tests, directly, then_next}
 use Rattle.judge_laws.specs.Statements.{InhalesDirectly, ExhalesDirectly}
-use Rattle.judge_laws.proofs.Taking.{otherwise, test_from_related}
+use Rattle.judge_laws.proofs.Taking.{throughout, otherwise, test_from_related}
 use Rattle.judge_laws.proofs.Formulas.{inhale_related, exhale_related}
 
 -- a rest with what comes next, and the same in one go
@@ -26,7 +26,7 @@ by_turn next false x u y w p q = q
 
 tests_continue : (maps : Maps) (table : List Entry) (next : Next Judged)
     → AreRelated (judging_tests maps table) (direct_tests maps table) (Continues next)
-tests_continue maps table next = record {
+tests_continue maps table next = throughout _ _ _ (record {
   finished = λ picks. refl;
   blocked = λ picks. refl;
   failed = λ check span picks. refl;
@@ -41,7 +41,7 @@ tests_continue maps table next = record {
   noticing = λ e x y h. h;
   reading = λ c f g h. h _;
   knowing = λ k x y h. h;
-}
+})
   where
     picks_continue : (f : ℤ → Judged) (g : ℤ → Directly) → ((z : ℤ) → Continues next (f z) (g z))
         → Continues next ((judging maps table).pick Int f) ((directly maps table).pick Int g)

@@ -14,9 +14,11 @@ use Rattle.pv_picks.specs.Judge.Runs.{Maps, maps_of, value_of_operation}
 use Rattle.pv_picks.specs.Lazy.Patterns.{Took}
 use Rattle.pv_picks.specs.Lazy.Runs.{taken_in, ranged, Memory, Final, final, Source, Lazily, Unfit, Outcome, OneNumber, OneTurn, ForRange, at_end, showing, taking, picking, testing, from_picks, Drawn, from_values, element_or, operation_or, value_read, value_used, no_memory}
 use Rattle.judge_laws.specs.Related.{AreRelated}
+use Rattle.judge_laws.proofs.Taking.{throughout}
 use Rattle.judge_laws.specs.Drawing.{AreAt, turns_of, RunsAsDrawn}
 use Rattle.judge_laws.proofs.Sources.{lazy_related}
-use Rattle.judge_laws.proofs.Statements.{judge_related}
+use Rattle.judge_laws.specs.Entering.{EntersAsDrawn}
+use Rattle.judge_laws.proofs.Statements.{judge_related, enter_task_related}
 
 module _ (maps : Maps) (table : List Entry) (values : ℕ → ℤ) (turns : ℕ → ℕ) where
   abbrev One : Source (List Pick) Final
@@ -120,7 +122,7 @@ module _ (maps : Maps) (table : List Entry) (values : ℕ → ℤ) (turns : ℕ 
       element_draws (value_read m.reads n i) type n i _ _ (λ z. h (as_element type z)) m ps d u a t
 
   tests_draw : AreRelated (testing final One) (testing final Other) Draws
-  tests_draw = record {
+  tests_draw = throughout _ _ _ (record {
     finished = λ m ps d u a t. refl;
     blocked = λ m ps d u a t. refl;
     failed = λ check span m ps d u a t. refl;
@@ -135,7 +137,7 @@ module _ (maps : Maps) (table : List Entry) (values : ℕ → ℤ) (turns : ℕ 
     noticing = λ e x y h m ps d u a t. ap (showing _) (h _ ps d u a t);
     reading = reading_draws;
     knowing = λ k x y h. h;
-  }
+  })
 
 pub runs_as_drawn : RunsAsDrawn
 runs_as_drawn p unit evidence values turns fits values_there turns_there =
@@ -145,3 +147,13 @@ runs_as_drawn p unit evidence values turns fits values_there turns_there =
     (tests_draw (maps_of evidence.picks) evidence.table values turns)
     (λ sh mv q r k x y h m ps d u a t. ap (showing (sh m)) (h (mv m) ps d u a t)) (λ f g h m ps d u a t. h m m ps d u a t))
     p (task_of p unit) no_memory evidence.picks (record { taken = 0; turned = 0 }) fits values_there turns_there
+
+-- the same up to the first inhale
+pub enters_as_drawn : EntersAsDrawn
+enters_as_drawn p unit evidence values turns fits values_there turns_there =
+    enter_task_related _ _ (Draws (maps_of evidence.picks) evidence.table values turns)
+    (lazy_related final final (from_picks (maps_of evidence.picks) evidence.table) (from_values values turns)
+    (Draws (maps_of evidence.picks) evidence.table values turns)
+    (tests_draw (maps_of evidence.picks) evidence.table values turns)
+    (λ sh mv q r k x y h m ps d u a t. ap (showing (sh m)) (h (mv m) ps d u a t)) (λ f g h m ps d u a t. h m m ps d u a t))
+    (task_of p unit) no_memory evidence.picks (record { taken = 0; turned = 0 }) fits values_there turns_there

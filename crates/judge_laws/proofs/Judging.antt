@@ -24,8 +24,9 @@ use Rattle.judge_laws.specs.Drawing.{FitReads, FitsUses}
 use Rattle.judge_laws.specs.Judging.{as_end, JudgesAsLazy}
 use Rattle.judge_laws.specs.Options.{or_none}
 use Rattle.pv_picks.proofs.Readers.{ReadersRelated, evaluate_related}
-use Rattle.judge_laws.proofs.Taking.{otherwise, test_at_related, test_from_related}
-use Rattle.judge_laws.proofs.Statements.{judge_related}
+use Rattle.judge_laws.proofs.Taking.{throughout, otherwise, test_at_related, test_from_related}
+use Rattle.judge_laws.specs.Entering.{EntersAsLazy}
+use Rattle.judge_laws.proofs.Statements.{judge_related, enter_task_related}
 use Rattle.judge_laws.proofs.Lookups.{read_right, used_right, fits_more}
 
 module _ (maps : Maps) (table : List Entry) where
@@ -204,7 +205,7 @@ module _ (maps : Maps) (table : List Entry) where
       (λ z. h (as_element type z)) m ps r (λ z e. read_right maps m.reads n i z r.0 e)
 
   tests_judge : AreRelated J L Judges
-  tests_judge = record {
+  tests_judge = throughout _ _ _ (record {
     finished = λ m ps r. inl refl;
     blocked = λ m ps r. inl refl;
     failed = λ check span m ps r. inl refl;
@@ -221,7 +222,7 @@ module _ (maps : Maps) (table : List Entry) where
     noticing = λ e x y h m ps r. h _ ps r;
     reading = reading_judges;
     knowing = λ k x y h. h;
-  }
+  })
 
   -- the tests of facts that hold go
   pub passes_at : (k : Known) (i : ℤ) (n : ℕ) (j : ℤ) → PassesFrom k i n → i ≤ℤ j → j <ℤ (i +ℤ pos n) → Passes k j
@@ -310,4 +311,10 @@ module _ (maps : Maps) (table : List Entry) where
 pub judges_as_lazy : JudgesAsLazy
 judges_as_lazy p unit evidence =
     judge_related _ _ (Judges (maps_of evidence.picks) evidence.table) (runs_judge (maps_of evidence.picks) evidence.table) p
+    (task_of p unit) no_memory evidence.picks (tt, (tt, tt))
+
+-- the same up to the first inhale
+pub enters_as_lazy : EntersAsLazy
+enters_as_lazy p unit evidence =
+    enter_task_related _ _ (Judges (maps_of evidence.picks) evidence.table) (runs_judge (maps_of evidence.picks) evidence.table)
     (task_of p unit) no_memory evidence.picks (tt, (tt, tt))

@@ -1,11 +1,11 @@
-mod Taking
+pub mod Taking
 mod Formulas
 pub mod Statements
 mod DirectForm
 mod TrueTables
 mod Falling
 pub mod Sources
-mod Drawing
+pub mod Drawing
 pub mod OneGo
 pub mod Parts
 pub mod Backing
@@ -13,3 +13,4 @@ pub mod Lookups
 pub mod Judging
 mod Together
 mod Picking
+pub mod Ending

@@ -15,7 +15,7 @@ use Rattle.judge_laws.proofs.Sources.{lazy_related}
 use Rattle.pv_picks.proofs.Readers.{evaluate_related}
 use Rattle.judge_laws.proofs.Formulas.{inhale_related, exhale_related}
 use Rattle.judge_laws.proofs.Statements.{access_related, judge_block_related}
-use Rattle.judge_laws.proofs.Taking.{formula_reader_related}
+use Rattle.judge_laws.proofs.Taking.{throughout, formula_reader_related}
 
 pub append_append : {X : Type 0} (xs ys zs : List X) → (xs ++ ys) ++ zs ≡ xs ++ (ys ++ zs)
 append_append [] ys zs = refl
@@ -68,7 +68,7 @@ module _ {A E : Type 0} (values : ℕ → ℤ) (turns : ℕ → ℕ) (stop : Laz
       element_continues (value_read m.reads n i) type n i _ _ (λ z. h (as_element type z)) m d
 
   tests_continue : AreRelated (testing Stopped One) (testing stop Other) Continues
-  tests_continue = record {
+  tests_continue = throughout _ _ _ (record {
     finished = λ m d. refl;
     blocked = λ m d. refl;
     failed = λ check span m d. refl;
@@ -86,7 +86,7 @@ module _ {A E : Type 0} (values : ℕ → ℤ) (turns : ℕ → ℕ) (stop : Laz
     noticing = λ e x y h m d. shown_continues _ _ _ (h _ d);
     reading = reading_continues;
     knowing = λ k x y h. h;
-  }
+  })
 
   pub continues : AreRelated (one_go values turns) (lazy stop (from_values values turns)) Continues
   continues =

@@ -8,6 +8,7 @@ use Rattle.pv_picks.specs.Judge.States.{Cell, Written, FromSteps, as_element}
 use Rattle.pv_picks.specs.Judge.UnitRuns.{task_of}
 use Rattle.pv_picks.specs.Lazy.Runs.{taken_in, ranged, Memory, Final, final, Source, Lazily, Unfit, Outcome, Taken, OneNumber, OneTurn, at_end, testing, Drawn, from_values, element_or, operation_or, value_read, value_used, no_memory}
 use Rattle.judge_laws.specs.Related.{AreRelated}
+use Rattle.judge_laws.proofs.Taking.{throughout}
 use Rattle.judge_laws.specs.Drawing.{RemembersPicks}
 use Rattle.judge_laws.proofs.Sources.{lazy_related}
 use Rattle.judge_laws.proofs.Statements.{judge_related}
@@ -51,7 +52,7 @@ module _ (values : ℕ → ℤ) (turns : ℕ → ℕ) where
       element_keeps (value_read m.reads n i) type n i _ (λ z. g (as_element type z)) (λ z. h (as_element type z)) m d
 
   tests_keep : AreRelated (testing final S) (testing final S) Keeps
-  tests_keep = record {
+  tests_keep = throughout _ _ _ (record {
     finished = λ m d. none_behind m.picks;
     blocked = λ m d. none_behind m.picks;
     failed = λ check span m d. none_behind m.picks;
@@ -68,7 +69,7 @@ module _ (values : ℕ → ℤ) (turns : ℕ → ℕ) where
     noticing = λ e x y h m d. h _ d;
     reading = reading_keeps;
     knowing = λ k x y h. h;
-  }
+  })
 
 pub remembers_picks : RemembersPicks
 remembers_picks p unit values turns =

@@ -16,26 +16,45 @@ use Rattle.pv_picks.specs.Judge.States.{State, amount_of, Resource, Folded, Cell
 use Rattle.pv_picks.specs.Judge.Settings.{Setting, Next, Event, Known, ArrayPart, met_as, pick_value, unless_null, if_within, known_or_picked, look_at_length, operate, or_missing, formula_reader}
 use Rattle.pv_picks.specs.Judge.Permissions.{gain_on, gain, gain_field, gain_element, gain_range, give, give_field, give_element, give_range, add_whole, add_token, take_token, add_lock, take_lock, add_instance, or_short, take_instance, has_room, has_each}
 use Rattle.pv_picks.specs.Judge.Repetitions.{bind_at, or_blocked, operation_tested, test_reader, test_at, test_from, Range, Look, AtElements, AtElement, AtLength, AtTerm, cut_by, value_in, arrays_read, look_ahead, notice_parts, notice_bound, notice_cut, unless_empty, cut_all}
-use Rattle.judge_laws.specs.Related.{AreRelated}
+use Rattle.judge_laws.specs.Related.{AreRelated, AreRelatedThroughout}
 use Rattle.pv_picks.proofs.Readers.{ReadersRelated, if_related, evaluate_related}
+
+module _ {A B : Type 0} (S : Setting A) (T : Setting B) (P : A → B → Type 0) (r : AreRelatedThroughout S T P) where
+  met_throughout : (t : PvType) (z : ℤ) (f : Value → Next A) (g : Value → Next B) → ((v : Value) (s : State) → P (f v s) (g v s))
+      → (s : State) → P (met_as S t z f s) (met_as T t z g s)
+  met_throughout t (pos n) f g h s = h _ _
+  met_throughout t (negsuc n) f g h s = r.unfit
+
+  pub throughout : AreRelated S T P
+  throughout = record {
+    finished = r.finished;
+    blocked = r.blocked;
+    failed = r.failed;
+    pick = r.pick;
+    met = λ t is f g h s. r.pick t _ _ (λ z. met_throughout t z f g h s);
+    turn = r.turn;
+    steps = r.steps;
+    using = r.using;
+    comparing = r.comparing;
+    matching = r.matching;
+    deciding = r.deciding;
+    noticing = r.noticing;
+    reading = r.reading;
+    knowing = r.knowing;
+  }
 
 module _ {A B : Type 0} (S : Setting A) (T : Setting B) (P : A → B → Type 0) (r : AreRelated S T P) where
   -- two rests from each state on
   abbrev pub Nexts : Next A → Next B → Type 0
   Nexts f g = (s : State) → P (f s) (g s)
 
-  pub met_as_related : (t : PvType) (z : ℤ) (f : Value → Next A) (g : Value → Next B) → ((v : Value) → Nexts (f v) (g v))
-      → Nexts (met_as S t z f) (met_as T t z g)
-  met_as_related t (pos n) f g h s = h _ _
-  met_as_related t (negsuc n) f g h s = r.unfit
-
   pub pick_value_related : (t : PvType) (f : Value → Next A) (g : Value → Next B) → ((v : Value) → Nexts (f v) (g v))
       → Nexts (pick_value S t f) (pick_value T t g)
   pick_value_related type.Int f g h s = r.pick _ _ _ (λ z. h _ s)
   pick_value_related type.Truth f g h s = r.pick _ _ _ (λ z. h _ s)
-  pick_value_related (type.Object c) f g h s = r.pick _ _ _ (λ z. met_as_related _ z f g h s)
-  pick_value_related type.IntArray f g h s = r.pick _ _ _ (λ z. met_as_related _ z f g h s)
-  pick_value_related type.TruthArray f g h s = r.pick _ _ _ (λ z. met_as_related _ z f g h s)
+  pick_value_related (type.Object c) f g h s = r.met (type.Object c) tt f g h s
+  pick_value_related type.IntArray f g h s = r.met type.IntArray tt f g h s
+  pick_value_related type.TruthArray f g h s = r.met type.TruthArray tt f g h s
   pick_value_related type.Null f g h s = r.blocked
 
   pub unless_null_related : (n : ℕ) (x u : A) (y w : B) → P x y → P u w → P (unless_null S n x u) (unless_null T n y w)
@@ -269,8 +288,8 @@ module _ {A B : Type 0} (S : Setting A) (T : Setting B) (P : A → B → Type 0)
     finished = r.finished;
     blocked = r.blocked;
     failed = r.failed;
-    unfit = r.unfit;
     pick = r.pick;
+    met = r.met;
     turn = r.turn;
     steps = r.steps;
     using = r.using;

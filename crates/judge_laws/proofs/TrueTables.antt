@@ -19,7 +19,7 @@ use Rattle.pv_picks.specs.Verdicts.Grounds.{operation_of, worked_out, IsTrueEntr
 use Rattle.judge_laws.specs.Related.{AreRelated}
 use Rattle.judge_laws.specs.Statements.{ReadsNoTrueTable}
 use Rattle.pv_picks.proofs.Sames.{front, back, numbers_same}
-use Rattle.judge_laws.proofs.Taking.{otherwise, test_from_related}
+use Rattle.judge_laws.proofs.Taking.{throughout, otherwise, test_from_related}
 use Rattle.judge_laws.proofs.Statements.{judge_related}
 
 same_operator : (o : Operation) (op : Operator) → is_operator o op ≡ true → operation_of op ≡ Some o
@@ -65,7 +65,7 @@ Agree one other = (picks : List Pick) → one picks ≡ other picks
 
 tests_agree : (maps : Maps) (table : List Entry) → All IsTrueEntry table
     → AreRelated (judging_tests maps table) (judging_tests maps []) Agree
-tests_agree maps table t = record {
+tests_agree maps table t = throughout _ _ _ (record {
   finished = λ picks. refl;
   blocked = λ picks. refl;
   failed = λ check span picks. refl;
@@ -80,7 +80,7 @@ tests_agree maps table t = record {
   noticing = λ e x y h. h;
   reading = λ c f g h. h _;
   knowing = λ k x y h. h;
-}
+})
   where
     picks_agree : (f g : ℤ → Judged) → ((z : ℤ) → Agree (f z) (g z))
         → Agree ((judging maps table).pick Int f) ((judging maps []).pick Int g)

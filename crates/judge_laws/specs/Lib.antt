@@ -6,3 +6,5 @@ pub mod Drawing
 pub mod OneGo
 pub mod Parts
 pub mod Judging
+pub mod Ending
+pub mod Entering

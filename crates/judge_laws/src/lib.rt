@@ -3,6 +3,8 @@
 
 ghost use Rattle.judge_laws.specs.Judging.{JudgesAsLazy, JudgesAsDrawn, BlocksWithoutPattern};
 ghost use Rattle.judge_laws.specs.Drawing.{RunsAsDrawn, DrawnRunsAsLazy, RemembersPicks};
+ghost use Rattle.judge_laws.specs.Ending.{EndsUnfitAtNegative};
+ghost use Rattle.judge_laws.specs.Entering.{EntersAsDrawn, DrawnEntersAsLazy, EntersAsLazy};
 ghost use Rattle.judge_laws.specs.OneGo.{StepsInOneGo};
 ghost use Rattle.judge_laws.specs.Parts.{RunsByParts};
 ghost use Rattle.judge_laws.specs.Statements.{InhalesDirectly, ExhalesDirectly, WasHeld, ReadsNoTrueTable};
@@ -66,4 +68,24 @@ pub fn steps_in_one_go()
 /// A drawn run is its parts, each with what comes next: an expression is its parts and their operations, a formula its conjuncts.
 pub fn runs_by_parts()
     ensures { RunsByParts }
+{}
+
+/// With turns below 3, a drawn run that ends unfit ends just behind a negative number in the place of a reference.
+pub fn ends_unfit_at_negative()
+    ensures { EndsUnfitAtNegative }
+{}
+
+/// Up to the first inhale the lazy run of evidence is the drawn run on the values and turns that it takes.
+pub fn enters_as_drawn()
+    ensures { EntersAsDrawn }
+{}
+
+/// Up to the first inhale evidence with the picks of a drawn run, whose maps and table fit what it remembers, has that run.
+pub fn drawn_enters_as_lazy()
+    ensures { DrawnEntersAsLazy }
+{}
+
+/// Up to the first inhale the judge ends as the lazy run does, or is blocked.
+pub fn enters_as_lazy()
+    ensures { EntersAsLazy }
 {}
