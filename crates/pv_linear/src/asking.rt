@@ -34,6 +34,8 @@ pub fn question<K: Asker>(literal: Literal, asker: &mut K) -> Result<bool, AskFa
     ensures stopped { OnErr result (Stays K.path K.turns K.decisions asker.old asker.new) }
     ensures sorted { OnOk result ((takes : Evidence → List Sorts) → AreSorted takes (K.path asker.old) (K.turns asker.old) (K.decisions asker.old) (K.sorts asker.old)
         → HasSorts (K.sorts asker.old) literal → AreSorted takes (K.path asker.new) (K.turns asker.new) (K.decisions asker.new) (K.sorts asker.new)) }
+    ensures stopped_sorted { OnErr result ((takes : Evidence → List Sorts) → AreSorted takes (K.path asker.old) (K.turns asker.old) (K.decisions asker.old) (K.sorts asker.old)
+        → HasSorts (K.sorts asker.old) literal → AreSorted takes (K.path asker.new) (K.turns asker.new) (K.decisions asker.new) (K.sorts asker.new)) }
     ensures path { IfOk result (λ told. K.path asker.new ≡ K.path asker.old ++ answered literal told ∷ []) }
     ensures same_sorts { K.sorts asker.new ≡ K.sorts asker.old }
     ensures full { IfErr result (λ fault. OnFull fault (MayBeFull (K.path asker.new) (K.sorts asker.new))) }
@@ -53,6 +55,8 @@ pub fn ask_at_most<K: Asker>(a: Term, b: Term, asker: &mut K) -> Result<bool, As
     ensures stops { OnErr result (Goes K.path K.turns K.decisions K.stands K.ended asker.old asker.new) }
     ensures stopped { OnErr result (Stays K.path K.turns K.decisions asker.old asker.new) }
     ensures sorted { OnOk result ((takes : Evidence → List Sorts) → AreSorted takes (K.path asker.old) (K.turns asker.old) (K.decisions asker.old) (K.sorts asker.old)
+        → HasSort (K.sorts asker.old) NumberSort a.symbol.0 → HasSort (K.sorts asker.old) NumberSort b.symbol.0 → AreSorted takes (K.path asker.new) (K.turns asker.new) (K.decisions asker.new) (K.sorts asker.new)) }
+    ensures stopped_sorted { OnErr result ((takes : Evidence → List Sorts) → AreSorted takes (K.path asker.old) (K.turns asker.old) (K.decisions asker.old) (K.sorts asker.old)
         → HasSort (K.sorts asker.old) NumberSort a.symbol.0 → HasSort (K.sorts asker.old) NumberSort b.symbol.0 → AreSorted takes (K.path asker.new) (K.turns asker.new) (K.decisions asker.new) (K.sorts asker.new)) }
     ensures back { OnOk result (MayAsk (K.path asker.new) (AtMost b.symbol a.symbol (a.plus -ℤ b.plus))) }
     ensures same_sorts { K.sorts asker.new ≡ K.sorts asker.old }
@@ -74,6 +78,8 @@ pub fn ask_same<K: Asker>(a: Symbol, b: Symbol, asker: &mut K) -> Result<bool, A
     ensures stopped { OnErr result (Stays K.path K.turns K.decisions asker.old asker.new) }
     ensures sorted { OnOk result ((takes : Evidence → List Sorts) → AreSorted takes (K.path asker.old) (K.turns asker.old) (K.decisions asker.old) (K.sorts asker.old)
         → HasSort (K.sorts asker.old) ReferenceSort a.0 → HasSort (K.sorts asker.old) ReferenceSort b.0 → AreSorted takes (K.path asker.new) (K.turns asker.new) (K.decisions asker.new) (K.sorts asker.new)) }
+    ensures stopped_sorted { OnErr result ((takes : Evidence → List Sorts) → AreSorted takes (K.path asker.old) (K.turns asker.old) (K.decisions asker.old) (K.sorts asker.old)
+        → HasSort (K.sorts asker.old) ReferenceSort a.0 → HasSort (K.sorts asker.old) ReferenceSort b.0 → AreSorted takes (K.path asker.new) (K.turns asker.new) (K.decisions asker.new) (K.sorts asker.new)) }
     ensures same_sorts { K.sorts asker.new ≡ K.sorts asker.old }
     ensures full { IfErr result (λ fault. OnFull fault (MayBeFull (K.path asker.new) (K.sorts asker.new))) }
 {
@@ -92,6 +98,8 @@ pub fn ask_truth<K: Asker>(truth: Symbol, asker: &mut K) -> Result<bool, AskFaul
     ensures stops { OnErr result (Goes K.path K.turns K.decisions K.stands K.ended asker.old asker.new) }
     ensures stopped { OnErr result (Stays K.path K.turns K.decisions asker.old asker.new) }
     ensures sorted { OnOk result ((takes : Evidence → List Sorts) → AreSorted takes (K.path asker.old) (K.turns asker.old) (K.decisions asker.old) (K.sorts asker.old)
+        → HasSort (K.sorts asker.old) TruthSort truth.0 → AreSorted takes (K.path asker.new) (K.turns asker.new) (K.decisions asker.new) (K.sorts asker.new)) }
+    ensures stopped_sorted { OnErr result ((takes : Evidence → List Sorts) → AreSorted takes (K.path asker.old) (K.turns asker.old) (K.decisions asker.old) (K.sorts asker.old)
         → HasSort (K.sorts asker.old) TruthSort truth.0 → AreSorted takes (K.path asker.new) (K.turns asker.new) (K.decisions asker.new) (K.sorts asker.new)) }
     ensures same_sorts { K.sorts asker.new ≡ K.sorts asker.old }
     ensures full { IfErr result (λ fault. OnFull fault (MayBeFull (K.path asker.new) (K.sorts asker.new))) }
@@ -115,6 +123,8 @@ pub fn ask_order<K: Asker>(a: Term, b: Term, asker: &mut K) -> Result<Ordering, 
     ensures stops { OnErr result (Goes K.path K.turns K.decisions K.stands K.ended asker.old asker.new) }
     ensures stopped { OnErr result (Rests K.path K.turns K.decisions asker.old asker.new (λ e. int_cmp (term_value e.values a) (term_value e.values b))) }
     ensures sorted { OnOk result ((takes : Evidence → List Sorts) → AreSorted takes (K.path asker.old) (K.turns asker.old) (K.decisions asker.old) (K.sorts asker.old)
+        → HasSort (K.sorts asker.old) NumberSort a.symbol.0 → HasSort (K.sorts asker.old) NumberSort b.symbol.0 → AreSorted takes (K.path asker.new) (K.turns asker.new) (K.decisions asker.new) (K.sorts asker.new)) }
+    ensures stopped_sorted { OnErr result ((takes : Evidence → List Sorts) → AreSorted takes (K.path asker.old) (K.turns asker.old) (K.decisions asker.old) (K.sorts asker.old)
         → HasSort (K.sorts asker.old) NumberSort a.symbol.0 → HasSort (K.sorts asker.old) NumberSort b.symbol.0 → AreSorted takes (K.path asker.new) (K.turns asker.new) (K.decisions asker.new) (K.sorts asker.new)) }
     ensures same_sorts { K.sorts asker.new ≡ K.sorts asker.old }
     ensures full { IfErr result (λ fault. OnFull fault (MayBeFull (K.path asker.new) (K.sorts asker.new))) }
@@ -144,6 +154,8 @@ pub fn ask_equal<K: Asker>(a: Term, b: Term, asker: &mut K) -> Result<bool, AskF
     ensures stopped { OnErr result (Rests K.path K.turns K.decisions asker.old asker.new (λ e. int_cmp (term_value e.values a) (term_value e.values b))) }
     ensures sorted { OnOk result ((takes : Evidence → List Sorts) → AreSorted takes (K.path asker.old) (K.turns asker.old) (K.decisions asker.old) (K.sorts asker.old)
         → HasSort (K.sorts asker.old) NumberSort a.symbol.0 → HasSort (K.sorts asker.old) NumberSort b.symbol.0 → AreSorted takes (K.path asker.new) (K.turns asker.new) (K.decisions asker.new) (K.sorts asker.new)) }
+    ensures stopped_sorted { OnErr result ((takes : Evidence → List Sorts) → AreSorted takes (K.path asker.old) (K.turns asker.old) (K.decisions asker.old) (K.sorts asker.old)
+        → HasSort (K.sorts asker.old) NumberSort a.symbol.0 → HasSort (K.sorts asker.old) NumberSort b.symbol.0 → AreSorted takes (K.path asker.new) (K.turns asker.new) (K.decisions asker.new) (K.sorts asker.new)) }
     ensures same_sorts { K.sorts asker.new ≡ K.sorts asker.old }
     ensures full { IfErr result (λ fault. OnFull fault (MayBeFull (K.path asker.new) (K.sorts asker.new))) }
 {
@@ -163,6 +175,8 @@ pub fn take_turn<K: Asker>(asker: &mut K) -> Result<u32, AskFault>
     ensures path { K.path asker.new ≡ K.path asker.old }
     ensures sorted { OnOk result ((takes : Evidence → List Sorts) → AreSorted takes (K.path asker.old) (K.turns asker.old) (K.decisions asker.old) (K.sorts asker.old)
         → AreSorted takes (K.path asker.new) (K.turns asker.new) (K.decisions asker.new) (K.sorts asker.new)) }
+    ensures stopped_sorted { OnErr result ((takes : Evidence → List Sorts) → AreSorted takes (K.path asker.old) (K.turns asker.old) (K.decisions asker.old) (K.sorts asker.old)
+        → AreSorted takes (K.path asker.new) (K.turns asker.new) (K.decisions asker.new) (K.sorts asker.new)) }
     ensures same_sorts { K.sorts asker.new ≡ K.sorts asker.old }
     ensures fault { IfErr result (λ fault. fault ≡ NoMemoryFault) }
 {
@@ -181,6 +195,8 @@ pub fn make_symbol<K: Asker>(sort: Sort, asker: &mut K) -> Result<Symbol, AskFau
     ensures symbols { OnOk result (length (K.sorts asker.new) ≡ length (K.sorts asker.old) + 1) }
     ensures sorted { OnOk result ((takes : Evidence → List Sorts) → AreSorted takes (K.path asker.old) (K.turns asker.old) (K.decisions asker.old) (K.sorts asker.old)
         → Under K.path K.turns asker.old (λ e. HasTurns e → Tracks (K.sorts asker.old ++ sort ∷ []) (takes e) e.values) → AreSorted takes (K.path asker.new) (K.turns asker.new) (K.decisions asker.new) (K.sorts asker.new)) }
+    ensures stopped_sorted { OnErr result ((takes : Evidence → List Sorts) → AreSorted takes (K.path asker.old) (K.turns asker.old) (K.decisions asker.old) (K.sorts asker.old)
+        → AreSorted takes (K.path asker.new) (K.turns asker.new) (K.decisions asker.new) (K.sorts asker.new)) }
     ensures same_sorts { OnErr result (K.sorts asker.new ≡ K.sorts asker.old) }
     ensures path { K.path asker.new ≡ K.path asker.old }
     ensures turns { K.turns asker.new ≡ K.turns asker.old }
