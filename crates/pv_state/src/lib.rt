@@ -1,0 +1,11 @@
+//! Symbolic runs of parts of a unit, over any asker.
+#![tactic(auto)]
+
+mod questions;
+mod scene;
+mod uses;
+mod values;
+
+pub use scene::{Local, Met, Stores, SymbolPick, SymbolScene};
+pub use uses::TabledUse;
+pub use values::{SymbolTruth, SymbolValue};
