@@ -1,6 +1,8 @@
 pub mod Fronts
 pub mod Following
 pub mod Asked
+pub mod Taken
+pub mod Tabled
 pub mod Truths
 pub mod Orders
 pub mod Scenes

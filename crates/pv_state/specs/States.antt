@@ -19,7 +19,7 @@ use Rattle.pv_state.specs.declared.scene.SymbolPick.{SymbolPick}
 use Rattle.pv_state.specs.declared.scene.SymbolPick.TheVariants as pick
 use Rattle.pv_state.specs.declared.scene.Stores.{Stores}
 use Rattle.pv_state.specs.Values.{value_at, plus_of, IsMade}
-use Rattle.pv_state.specs.Uses.{uses_at}
+use Rattle.pv_state.specs.Uses.{AreUses, uses_at}
 
 abbrev pub variables_at : Values → List Local → Variables
 variables_at v [] name = value.Number (pos 0)
@@ -75,6 +75,23 @@ pub record IsMadeScene (made : List Sort) (s : SymbolScene) : Type 0 where
   pub this : HasSort made sort.Reference s.this.0
   pub locals : AreMade made s.locals.items
   pub result : IsMade made s.result
+
+unfoldable pub AreMet : List Sort → List Met → Type 0
+AreMet made [] = Unit {0}
+AreMet made (m ∷ ms) = HasSort made sort.Reference m.symbol.0 × AreMet made ms
+
+abbrev pub IsMadePick : List Sort → SymbolPick → Type 0
+IsMadePick made (pick.Number s symbol) = HasSort made s symbol.0
+IsMadePick made (pick.Turn n) = Unit {0}
+
+unfoldable pub ArePicks : List Sort → List SymbolPick → Type 0
+ArePicks made [] = Unit {0}
+ArePicks made (p ∷ ps) = IsMadePick made p × ArePicks made ps
+
+pub record AreStores (made : List Sort) (stores : Stores) : Type 0 where
+  pub uses : AreUses made stores.uses.items
+  pub met : AreMet made stores.met.items
+  pub picks : ArePicks made stores.picks.items
 
 -- how far the numbers beside symbols are from zero
 abbrev pub size_of : List Local → ℕ

@@ -162,7 +162,7 @@ fn is_same<K: Asker>(
 
 /// The symbol of the first use that is the same.
 #[tactic(auto, using(crate::proofs::Orders::shown_first, crate::proofs::Orders::shown_rest, crate::proofs::Orders::term_stays, crate::proofs::Orders::use_of, crate::proofs::Orders::value_of_use, crate::proofs::Orders::uses_stay))]
-fn find<K: Asker>(
+pub(crate) fn find<K: Asker>(
     uses: &[TabledUse],
     operation: Operation,
     a: Term,
