@@ -184,7 +184,7 @@ module _ {S : Type 0} (path : S → List Literal) (turns : S → List ℕ) (deci
   pub halts_asked : {A : Type 0} (old new : S) (b : Evidence → List Shown) (x : Evidence → Ran A)
       → Goes path turns decisions stands ended old new → StopsShown path turns decisions sorts old new b → sorts new ≡ sorts old
       → StaysSorted path turns decisions sorts old new → Halts path turns decisions stands ended sorts old new (λ e. showing
-          (b e) (x e))
+      (b e) (x e))
   halts_asked old new b x goes tells same sorted = record {
     goes = goes;
     tells = λ e f h i v fe ff meet. tells e f h i v (up_before (sorts old) e.values (showing (b e) (x e)) fe)

@@ -104,10 +104,10 @@ module _ {S : Type 0} (path : S → List Literal) (turns : S → List ℕ) (deci
             let q = comes one f z (up_first (sorts old) f.values (y f) (k f) ff) in
             elim (two.tells e f x z w (ups one e x fe) (ups one f z ff)
             (both_meet (after Stopped (y e).end (k e)).shows (after Stopped (y f).end (k f)).shows (second e).shows (second
-                f).shows
+            f).shows
             (ap (λ r. r.shows) p) (ap (λ r. r.shows) q)
             (Meet_rest (y e).shows (after Stopped (y e).end (k e)).shows (y f).shows (after Stopped (y f).end (k f)).shows
-                same meet))) [
+            same meet))) [
               | inl t ↦ inl (
                 t.0,
                 (
@@ -153,10 +153,10 @@ module _ {S : Type 0} (path : S → List Literal) (turns : S → List ℕ) (deci
             let q = comes one f z (up_first (sorts old) f.values (y f) (k f) ff) in
             two.tells e f x z w (ups one e x fe) (ups one f z ff)
             (both_meet (after Stopped (y e).end (k e)).shows (after Stopped (y f).end (k f)).shows (second e).shows (second
-                f).shows
+            f).shows
             (ap (λ r. r.shows) p) (ap (λ r. r.shows) q)
             (Meet_rest (y e).shows (after Stopped (y e).end (k e)).shows (y f).shows (after Stopped (y f).end (k f)).shows
-                same meet))
+            same meet))
 
     -- where the second may begin
     pub ready_then : Ready path turns decisions sorts old (λ e. chain (y e) (k e))

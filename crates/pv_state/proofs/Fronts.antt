@@ -108,8 +108,11 @@ pub reaches_second : {A B : Type 0} (taken before mid : List Sort) (v : Values) 
     → (AreUp before v → Took before mid v y) → IsFront before mid → (IsUp before v y → after Stopped y.end k ≡ r)
     → Reaches taken before v (chain y k) → Reaches taken mid v r
 unfolding Reaches Took IsUp
-reaches_second {A = A} {B = B} taken before mid v y k r took grows same (inr (f, h)) = inr (front_then taken before mid f
-    grows, h)
+reaches_second {A = A} {B = B} taken before mid v y k r took grows same (inr (f, h)) = inr (
+  front_then taken before mid f
+      grows,
+  h,
+)
 reaches_second {A = A} {B = B} taken before mid v y k r took grows same (inl l) = go (took l.up)
   where
     go : (AreUp (before ++ sorts_in y) v × (mid ≡ before ++ sorts_in y))

@@ -3,6 +3,8 @@ pub mod Following
 pub mod Asked
 pub mod Taken
 pub mod Tabled
+pub mod Sums
+pub mod Operating
 pub mod Truths
 pub mod Orders
 pub mod Scenes

@@ -22,7 +22,8 @@ use Rattle.pv_linear.specs.Evidence.{MayAsk}
 use Rattle.pv_linear.specs.Decisions.{Decision}
 use Rattle.pv_linear.proofs.Orders.{less, equal, greater, at_most_same, at_least_same}
 use Rattle.pv_state.specs.Parts.{IsSorted, StaysSorted}
-use Rattle.pv_state.specs.Uses.{IsTerm, IsUse, AreUses, shown_at}
+use Rattle.pv_state.specs.Values.{IsTerm}
+use Rattle.pv_state.specs.Uses.{IsUse, AreUses, shown_at}
 use Rattle.pv_state.specs.declared.uses.TabledUse.{TabledUse}
 use Rattle.pv_linear.proofs.SortingLemmas.{has_more}
 use Rattle.pv_state.proofs.Asked.{sorted_asks, sorted_stays}
@@ -44,8 +45,11 @@ may_compare path turns decisions sorts asker a b sorted x y =
     (inl (x.sort, y.sort))
 
 pub equal_told : (told : Bool) (a b : ℤ) → IsTrue told ↔ (a ≡ b) → told ≡ same_number a b
-equal_told told a b says = go told (int_le a b) (int_le b a) (λ t. search (rules, ints, says.0 t)) (λ t. search (rules, ints,
-    says.0 t))
+equal_told told a b says = go told (int_le a b) (int_le b a) (λ t. search (rules, ints, says.0 t)) (λ t. search (
+  rules,
+  ints,
+  says.0 t,
+))
     (λ p q. says.1 (search (rules, ints)))
   where
     go : (t x y : Bool) → (IsTrue t → x ≡ true) → (IsTrue t → y ≡ true) → (x ≡ true → y ≡ true → IsTrue t) → t ≡ (x && y)

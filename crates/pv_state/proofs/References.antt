@@ -57,6 +57,6 @@ pub meet_same : (made : List Sort) (v w : Values) (a b : ℕ) → AreUp made v �
 unfolding Meet
 meet_same made v w a b up high x y m =
     let p : nat_eq (or_zero (number_of v a)) (or_zero (number_of v b))
-        ≡ nat_eq (or_zero (number_of w a)) (or_zero (number_of w b)) =
+    ≡ nat_eq (or_zero (number_of w a)) (or_zero (number_of w b)) =
     cc m.0 in
     sym (same_of made v a b up x y) ∙ p ∙ same_of made w a b high x y

@@ -10,8 +10,11 @@ use Rattle.pv_state.specs.declared.values.SymbolValue.{SymbolValue}
 use Rattle.pv_state.specs.declared.values.SymbolValue.TheVariants.{Number, Truth, Reference}
 use Rattle.pv_state.specs.declared.values.SymbolTruth.{SymbolTruth}
 use Rattle.pv_state.specs.declared.values.SymbolTruth.TheVariants.{Known, From, Unless}
-use Rattle.pv_state.specs.Values.{plus_of, IsMade, IsMadeTruth}
-use Rattle.pv_state.specs.States.{AreMade, IsMadeScene, size_of}
+use Rattle.pv_state.specs.Values.{IsMade, IsMadeTruth}
+use Rattle.std.specs.Prelude.{pos}
+use Rattle.pv_linear.specs.Sorts.{HasSort}
+use Rattle.pv_state.specs.States.{AreMade, IsMadeScene}
+use Rattle.pv_state.proofs.Orders.{term_more, is_number}
 
 pub made_of : (made : List Sort) (ls : List Local) (i : ℕ) (d : Local) → i < length ls → AreMade made ls
     → IsMade made (slice_index_or ls i d).value
@@ -20,11 +23,6 @@ made_of made [] i d h k = absurd (omega arith)
 made_of made (l ∷ ls) zero d h k = k.0
 made_of made (l ∷ ls) (suc i) d h k = made_of made ls i d (omega (arith, h)) k.1
 
-pub size_at : (ls : List Local) (i : ℕ) (d : Local) → i < length ls → plus_of (slice_index_or ls i d).value ≤ size_of ls
-size_at [] i d h = absurd (omega arith)
-size_at (l ∷ ls) zero d h = omega arith
-size_at (l ∷ ls) (suc i) d h = let p = size_at ls i d (omega (arith, h)) in omega (arith, p)
-
 made_truth : (made more : List Sort) (t : SymbolTruth) → IsMadeTruth made t → IsMadeTruth (made ++ more) t
 made_truth made more (Known b) h = tt
 made_truth made more (From s) h = has_more made more sort.Truth s.0 h
@@ -32,7 +30,7 @@ made_truth made more (Unless s) h = has_more made more sort.Truth s.0 h
 
 pub made_more : (made more : List Sort) (x : SymbolValue) → IsMade made x → IsMade (made ++ more) x
 unfolding IsMade
-made_more made more (Number t) h = has_more made more sort.Number t.symbol.0 h
+made_more made more (Number t) h = term_more made more t h
 made_more made more (Truth t) h = made_truth made more t h
 made_more made more (Reference s) h = has_more made more sort.Reference s.0 h
 
@@ -47,3 +45,7 @@ scene_more made more s h = record {
   locals = are_more made more s.locals.items h.locals;
   result = made_more made more s.result h.result;
 }
+
+pub made_zero : (made : List Sort) → IsMade made (Number (record { symbol = record { 0 = 0 }; plus = pos 0 }))
+unfolding IsMade HasSort
+made_zero made = is_number made _ tt (omega arith)

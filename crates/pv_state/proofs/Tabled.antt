@@ -29,7 +29,8 @@ use Rattle.pv_state.specs.declared.scene.SymbolPick.{SymbolPick}
 use Rattle.pv_state.specs.declared.scene.SymbolPick.TheVariants as pick
 use Rattle.pv_state.specs.declared.uses.TabledUse.{TabledUse}
 use Rattle.pv_state.specs.Parts.{StaysSorted, TellsShown, StopsShown, Does, Halts}
-use Rattle.pv_state.specs.Uses.{IsTerm, AreUses, use_at, used_at, uses_at, shown_at, value_of_symbol}
+use Rattle.pv_state.specs.Values.{IsTerm}
+use Rattle.pv_state.specs.Uses.{AreUses, use_at, used_at, uses_at, shown_at, value_of_symbol}
 use Rattle.pv_state.specs.States.{AreMet, IsMadePick, ArePicks, AreStores, state_at, memory_at, drawn_at, went_at}
 use Rattle.pv_state.specs.Runs.{begun, run_use, run_new_use}
 use Rattle.pv_linear.proofs.SortingLemmas.{has_more}
@@ -88,7 +89,7 @@ pub new_stores : (made new : List Sort) (stores next : Stores) (operation : Oper
     → next.met ≡ stores.met → next.picks ≡ stores.picks → AreStores made stores → AreStores new next
 new_stores made new stores next operation a b value made_new symbol ha hb uses met picks h =
     let all : AreStores new stores =
-        subst (λ ts. AreStores ts stores) (sym made_new) (stores_more made (Number ∷ []) stores h) in
+    subst (λ ts. AreStores ts stores) (sym made_new) (stores_more made (Number ∷ []) stores h) in
     record {
       uses = subst (λ us. AreUses new us) (sym uses) (uses_push new stores.uses.items _ all.uses (record {
         left = subst (λ ts. IsTerm ts a) (sym made_new) (term_more made (Number ∷ []) a ha);
@@ -147,7 +148,7 @@ module _ {S : Type 0} (path : S → List Literal) (turns : S → List ℕ) (deci
           new_number e.values (length (sorts old)) (record { symbol = t.symbol; plus = pos 0 }) symbol refl
           ∙ search (rules, ints) in
           let us : uses_at e.values next.uses.items ≡ uses_at e.values stores.uses.items
-              ++ record { used = use_at e.values operation a b; value = e.values (length (sorts old)) } ∷ [] =
+          ++ record { used = use_at e.values operation a b; value = e.values (length (sorts old)) } ∷ [] =
           ap (λ xs. uses_at e.values xs) uses ∙ uses_append e.values stores.uses.items _
           ∙ ap (λ n. uses_at e.values stores.uses.items ++ record { used = use_at e.values operation a b; value = n } ∷ []) (sym y) in
           let n : suc (length (sorts old)) ≡ length (sorts new) =
@@ -169,7 +170,7 @@ pub used_tells : {S : Type 0} (path : S → List Literal) (turns : S → List �
     → TellsShown path turns decisions sorts old new (λ e. shown_at e.values operation a b us)
 used_tells path turns decisions sorts old new operation a b us rests e f fe ff level up high meet =
     let same : shown_at e.values operation a b us ≡ shown_at f.values operation a b us =
-        shown_met e.values f.values operation a b us meet in
+    shown_met e.values f.values operation a b us meet in
     elim (rests e f fe ff level same) [
       | inl t ↦ inl (t.0, (t.1.0, (t.1.1.0, same)))
       | inr g ↦ inr g

@@ -34,15 +34,15 @@ get_less [] s t zero h = inr (refl, cc h)
 get_less [] s t (suc k) h = absurd (cc h)
 get_less (x ∷ xs) s t zero h = inl h
 get_less (x ∷ xs) s t (suc k) h = elim (get_less xs s t k h) [
-    | inl p ↦ inl p
-    | inr p ↦ inr (omega (arith, p.0), p.1)
-  ]
+  | inl p ↦ inl p
+  | inr p ↦ inr (omega (arith, p.0), p.1)
+]
 
 pub up_to : (xs : List Sort) (s : Sort) (v : Values) → AreUp xs v → (s ≡ Reference → pos 0 ≤ℤ v (length xs)) → AreUp (xs ++ s ∷ []) v
 up_to xs s v up here k h = elim (get_less xs s Reference k h) [
-    | inl p ↦ up k p
-    | inr p ↦ subst (λ n. pos 0 ≤ℤ v n) (sym p.0) (here p.1)
-  ]
+  | inl p ↦ up k p
+  | inr p ↦ subst (λ n. pos 0 ≤ℤ v n) (sym p.0) (here p.1)
+]
 
 get_end : (xs : List Sort) (s : Sort) → slice_get (xs ++ s ∷ []) (length xs) ≡ Some s
 get_end [] s = refl
@@ -81,7 +81,7 @@ took_taken before mid last v type z r made up falls front took = go (up_or_not b
     over : (AreUp mid v → ⊥) → Took before last v (taking type z r)
     over not_up =
         let none : mid ≡ before ++ sorts_in (taking type z r) =
-            sym (append-nil mid) ∙ ap (λ ts. mid ++ map sort_of ts) (sym (falls up not_up).0) ∙ same in
+        sym (append-nil mid) ∙ ap (λ ts. mid ++ map sort_of ts) (sym (falls up not_up).0) ∙ same in
         inr ((falls up not_up).1, (subst (λ ts. IsFront ts last) none front, subst (λ ts. HasEnded ts v) none not_up))
 
     on : (AreUp (mid ++ sorts_in r) v × (last ≡ mid ++ sorts_in r))
@@ -131,7 +131,7 @@ reaches_taken {A = A} taken before mid v type z r made falls (inl l) = go (up_or
     go (inr not_up) =
         let over : AreUp mid v → ⊥ = λ h. not_up (subst (λ ts. AreUp ts v) made h) in
         let all : taken ≡ mid =
-            same ∙ ap (λ ts. mid ++ map sort_of ts) (rest_none r l.next (falls l.up over).0 (falls l.up over).1) ∙ append-nil mid in
+        same ∙ ap (λ ts. mid ++ map sort_of ts) (rest_none r l.next (falls l.up over).0 (falls l.up over).1) ∙ append-nil mid in
         inr (subst (λ ts. IsFront ts mid) (sym all) (front_all mid), subst (λ ts. HasEnded ts v) (sym all) over)
 
 module _ {S : Type 0} (path : S → List Literal) (turns : S → List ℕ) (decisions : S → List Decision)
@@ -180,9 +180,9 @@ module _ {S : Type 0} (path : S → List Literal) (turns : S → List ℕ) (deci
       grows = front_then (sorts old) (sorts mid) (sorts new) (sort_of type ∷ [], made) two.grows;
       ends = λ e f h. two.ends e f (ups e h);
       tells = λ e f h i v fe ff meet. elim (stays e f h i v) [
-          | inl t ↦ two.tells e f t.0 t.1.0 t.1.1.0 (ups e fe) (ups f ff) meet
-          | inr g ↦ inr (two.goes.gone e f g)
-        ];
+        | inl t ↦ two.tells e f t.0 t.1.0 t.1.1.0 (ups e fe) (ups f ff) meet
+        | inr g ↦ inr (two.goes.gone e f g)
+      ];
       took = λ e f u. took_taken (sorts old) (sorts mid) (sorts new) e.values type (z e) (r e) made u (falls e) two.grows
           (two.took e f);
       keeps = λ takes st h. two.keeps takes (sorted takes st h) (reach takes h);
@@ -194,9 +194,9 @@ module _ {S : Type 0} (path : S → List Literal) (turns : S → List ℕ) (deci
     halts_taken two = record {
       goes = mid_on two.goes;
       tells = λ e f h i v fe ff meet. elim (stays e f h i v) [
-          | inl t ↦ two.tells e f t.0 t.1.0 t.1.1.0 (ups e fe) (ups f ff) meet
-          | inr g ↦ inr (two.goes.gone e f g)
-        ];
+        | inl t ↦ two.tells e f t.0 t.1.0 t.1.1.0 (ups e fe) (ups f ff) meet
+        | inr g ↦ inr (two.goes.gone e f g)
+      ];
       most = λ e f h.
           let n = two.most e f (ups e h) in
           let one : length (sorts mid) ≡ length (sorts old) + 1 =

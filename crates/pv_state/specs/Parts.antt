@@ -135,4 +135,4 @@ unfoldable pub Ready : {S A : Type 0} → (S → List Literal) → (S → List �
 Ready path turns decisions sorts asker part = ∥ ((takes : Evidence → List Sort)
     × (AreSorted takes (path asker) (turns asker) (decisions asker) (sorts asker)
     × ((e : Evidence) → Follows (path asker) (turns asker) e → HasTurns e
-        → Reaches (takes e) (sorts asker) e.values (part e)))) ∥₁
+    → Reaches (takes e) (sorts asker) e.values (part e)))) ∥₁

@@ -1,21 +1,86 @@
 -- The parts of a run that calls do on symbols, each from the stores, and from what was made and turned so far.
-use Rattle.std.specs.Prelude.{ℕ, List, None}
+use Rattle.std.specs.Prelude.{ℕ, ◌-ℤ◌, Bool, List, None}
+use Rattle.pv_base.specs.declared.Span.{Span}
+use Rattle.pv_picks.specs.Plain.Core as core
+use Rattle.pv_picks.specs.declared.plain.Expression.{Expression}
+use Rattle.pv_picks.specs.declared.plain.Manner.{Manner}
+use Rattle.pv_picks.specs.declared.plain.Comparison.{Comparison}
+use Rattle.pv_picks.specs.Formulas.Values.{number_in}
+use Rattle.pv_picks.specs.Judge.States.{cells_of, empty_state}
+use Rattle.pv_picks.specs.Judge.Settings.{operate}
+use Rattle.pv_linear.specs.declared.Sort.{Sort}
+use Rattle.pv_state.specs.declared.operands.Operand.{Operand}
+use Rattle.pv_state.specs.declared.operands.Operand.TheVariants as operand
+use Rattle.pv_state.specs.declared.operands.Reading.{Reading}
+use Rattle.pv_state.specs.declared.operands.Reading.TheVariants as reading
+use Rattle.pv_state.specs.Values.{IsMade, IsTerm, value_at}
 use Rattle.pv_values.specs.declared.value.Value.{Value}
 use Rattle.pv_values.specs.declared.value.Value.TheVariants as value
 use Rattle.pv_picks.specs.declared.plain.Operation.{Operation}
-use Rattle.pv_picks.specs.Plain.Trees.{operation_of}
-use Rattle.pv_picks.specs.Lazy.Parts.{Came, Stopped, Part, Ran, gone, hooks}
+use Rattle.pv_picks.specs.Plain.Trees.{operation_of, manner_of, comparison_of, expression_of}
+use Rattle.pv_picks.specs.Lazy.Parts.{Stopped, Part, Ran, gone, hooks, run_expression}
+use Rattle.pv_picks.specs.Lazy.Parts as parts
 use Rattle.pv_picks.specs.Lazy.Runs.{from_values, operation_or}
 use Rattle.pv_linear.specs.declared.Term.{Term}
-use Rattle.pv_linear.specs.Values.{term_value}
+use Rattle.pv_linear.specs.Values.{Values, term_value}
 use Rattle.pv_linear.specs.Evidence.{Evidence}
 use Rattle.pv_state.specs.declared.scene.SymbolScene.{SymbolScene}
 use Rattle.pv_state.specs.declared.scene.Stores.{Stores}
-use Rattle.pv_state.specs.States.{state_at, memory_at, drawn_at}
+use Rattle.pv_state.specs.States.{scene_at, state_at, memory_at, drawn_at}
 
 -- a part, begun with these stores, after so many values and turns
 abbrev pub begun : {A : Type 0} → (Evidence → Part A) → SymbolScene → Stores → ℕ → ℕ → Evidence → Ran A
 begun part own stores taken turned e = part e (state_at e.values own stores) (memory_at e.values stores) (drawn_at taken turned)
+
+-- operands
+
+abbrev pub operand_at : Values → Operand → Value
+operand_at v (operand.One x) = value_at v x
+operand_at v (operand.Difference a b) = value.Number (term_value v a -ℤ term_value v b)
+
+abbrev pub IsMadeOperand : List Sort → Operand → Type 0
+IsMadeOperand made (operand.One x) = IsMade made x
+IsMadeOperand made (operand.Difference a b) = IsTerm made a × IsTerm made b
+
+-- nothing is held: what a formula reads is what no state holds
+abbrev pub reading_at : Reading → parts.Reading
+reading_at reading.Body = parts.InBody
+reading_at reading.Inhaled = parts.InFormula cells_of (λ s. cells_of empty_state)
+reading_at reading.Exhaled = parts.InFormula (λ s. cells_of empty_state) (λ s. cells_of empty_state)
+
+-- the value of an expression, in a scene of its own
+abbrev pub run_value : Reading → SymbolScene → Expression → Evidence → Part Value
+run_value r scene x e = run_expression e.values e.turns (reading_at r) (scene_at e.values scene) (expression_of x)
+
+abbrev pub run_plain : Reading → SymbolScene → core.Expression → Evidence → Part Value
+run_plain r scene x e = run_expression e.values e.turns (reading_at r) (scene_at e.values scene) x
+
+abbrev pub run_not : Reading → SymbolScene → Expression → Evidence → Part Value
+run_not r scene a = run_plain r scene (core.Not (expression_of a))
+
+abbrev pub run_compute : Reading → SymbolScene → Manner → Operation → Expression → Expression → Span → Evidence → Part Value
+run_compute r scene manner operation a b span =
+    run_plain r scene (core.Compute (manner_of manner) (operation_of operation) (expression_of a) (expression_of b) span)
+
+abbrev pub run_compare : Reading → SymbolScene → Comparison → Expression → Expression → Evidence → Part Value
+run_compare r scene order a b = run_plain r scene (core.Compare (comparison_of order) (expression_of a) (expression_of b))
+
+abbrev pub run_equal : Reading → SymbolScene → Bool → Expression → Expression → Evidence → Part Value
+run_equal r scene same a b = run_plain r scene (core.Equal same (expression_of a) (expression_of b))
+
+abbrev pub run_and : Reading → SymbolScene → Expression → Expression → Evidence → Part Value
+run_and r scene a b = run_plain r scene (core.And (expression_of a) (expression_of b))
+
+abbrev pub run_or : Reading → SymbolScene → Expression → Expression → Evidence → Part Value
+run_or r scene a b = run_plain r scene (core.Or (expression_of a) (expression_of b))
+
+abbrev pub run_implies : Reading → SymbolScene → Expression → Expression → Evidence → Part Value
+run_implies r scene a b = run_plain r scene (core.Implies (expression_of a) (expression_of b))
+
+-- what an operation of two values gives
+abbrev pub run_operation : Manner → Operation → Operand → Operand → Span → Evidence → Part Value
+run_operation manner operation a b span e = operate (hooks e.values e.turns) (manner_of manner) (operation_of operation)
+    (number_in (operand_at e.values a)) (number_in (operand_at e.values b)) span (λ z. gone (value.Number z))
 
 -- the value of a use of a tabled operation
 abbrev pub run_use : Operation → Term → Term → Evidence → Part Value

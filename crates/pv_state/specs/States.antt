@@ -1,5 +1,5 @@
 -- Scenes and stores of symbols, and what they stand for.
-use Rattle.std.specs.Prelude.{ℕ, pos, nat_eq, max, if◌then◌else◌, List, [], ◌∷◌, ◌++◌, map}
+use Rattle.std.specs.Prelude.{ℕ, pos, nat_eq, if◌then◌else◌, List, [], ◌∷◌, ◌++◌, map}
 use Rattle.pv_ast.specs.declared.PvType.{PvType}
 use Rattle.pv_values.specs.declared.value.Value.TheVariants as value
 use Rattle.pv_linear.specs.declared.Sort.{Sort}
@@ -18,7 +18,7 @@ use Rattle.pv_state.specs.declared.scene.Met.{Met}
 use Rattle.pv_state.specs.declared.scene.SymbolPick.{SymbolPick}
 use Rattle.pv_state.specs.declared.scene.SymbolPick.TheVariants as pick
 use Rattle.pv_state.specs.declared.scene.Stores.{Stores}
-use Rattle.pv_state.specs.Values.{value_at, plus_of, IsMade}
+use Rattle.pv_state.specs.Values.{value_at, IsMade}
 use Rattle.pv_state.specs.Uses.{AreUses, uses_at}
 
 abbrev pub variables_at : Values → List Local → Variables
@@ -92,11 +92,3 @@ pub record AreStores (made : List Sort) (stores : Stores) : Type 0 where
   pub uses : AreUses made stores.uses.items
   pub met : AreMet made stores.met.items
   pub picks : ArePicks made stores.picks.items
-
--- how far the numbers beside symbols are from zero
-abbrev pub size_of : List Local → ℕ
-size_of [] = 0
-size_of (l ∷ ls) = max (plus_of l.value) (size_of ls)
-
-abbrev pub size_of_scene : SymbolScene → ℕ
-size_of_scene s = max (plus_of s.result) (size_of s.locals.items)

@@ -9,14 +9,10 @@ use Rattle.pv_linear.specs.declared.Sort.{Sort}
 use Rattle.pv_linear.specs.declared.Sort.TheVariants.{Number}
 use Rattle.pv_linear.specs.declared.Symbol.{Symbol}
 use Rattle.pv_linear.specs.declared.Term.{Term}
-use Rattle.pv_linear.specs.Values.{Values, term_value, number_of, IsWithin}
+use Rattle.pv_linear.specs.Values.{Values, term_value, number_of}
 use Rattle.pv_linear.specs.Sorts.{HasSort}
+use Rattle.pv_state.specs.Values.{IsTerm}
 use Rattle.pv_state.specs.declared.uses.TabledUse.{TabledUse}
-
--- its symbol was made for a number, and what it adds may stand in a question
-pub record IsTerm (made : List Sort) (t : Term) : Type 0 where
-  pub sort : HasSort made Number t.symbol.0
-  pub near : IsWithin (2 ^ 98) t.plus
 
 pub record IsUse (made : List Sort) (u : TabledUse) : Type 0 where
   pub left : IsTerm made u.left

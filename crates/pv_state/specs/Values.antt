@@ -1,10 +1,11 @@
 -- Symbolic values, and what they stand for.
-use Rattle.std.specs.Prelude.{ℕ, pos, int_le, unsigned_abs, Bool, not, List}
+use Rattle.std.specs.Prelude.{ℕ, ◌^◌, pos, int_le, Bool, not, List}
 use Rattle.pv_values.specs.declared.value.Value.{Value}
 use Rattle.pv_values.specs.declared.value.Value.TheVariants as value
 use Rattle.pv_linear.specs.declared.Sort.{Sort}
 use Rattle.pv_linear.specs.declared.Sort.TheVariants as sort
-use Rattle.pv_linear.specs.Values.{Values, term_value, number_of}
+use Rattle.pv_linear.specs.declared.Term.{Term}
+use Rattle.pv_linear.specs.Values.{Values, term_value, number_of, IsWithin}
 use Rattle.pv_linear.specs.Sorts.{HasSort}
 use Rattle.pv_picks.specs.Formulas.Values.{or_zero}
 use Rattle.pv_state.specs.declared.values.SymbolTruth.{SymbolTruth}
@@ -27,6 +28,11 @@ value_at v (Number t) = value.Number (term_value v t)
 value_at v (Truth t) = value.Truth (truth_at v t)
 value_at v (Reference s) = value.Reference (or_zero (number_of v s.0))
 
+-- its symbol was made for a number, and what it adds may stand in a question
+pub record IsTerm (made : List Sort) (t : Term) : Type 0 where
+  pub sort : HasSort made sort.Number t.symbol.0
+  pub near : IsWithin (2 ^ 98) t.plus
+
 -- its symbol was made for such a value
 abbrev pub IsMadeTruth : List Sort → SymbolTruth → Type 0
 IsMadeTruth made (Known b) = Unit {0}
@@ -34,12 +40,6 @@ IsMadeTruth made (From s) = HasSort made sort.Truth s.0
 IsMadeTruth made (Unless s) = HasSort made sort.Truth s.0
 
 unfoldable pub IsMade : List Sort → SymbolValue → Type 0
-IsMade made (Number t) = HasSort made sort.Number t.symbol.0
+IsMade made (Number t) = IsTerm made t
 IsMade made (Truth t) = IsMadeTruth made t
 IsMade made (Reference s) = HasSort made sort.Reference s.0
-
--- how far the number beside its symbol is from zero
-abbrev pub plus_of : SymbolValue → ℕ
-plus_of (Number t) = unsigned_abs t.plus
-plus_of (Truth t) = 0
-plus_of (Reference s) = 0

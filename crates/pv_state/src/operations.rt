@@ -7,7 +7,7 @@ ghost use Rattle.pv_linear.specs.Sorts.{HasSort};
 ghost use Rattle.pv_linear.specs.Values.{term_value};
 ghost use Rattle.pv_linear.specs.Evidence.{Evidence, MayBeFull, OnFull};
 ghost use Rattle.pv_state.specs.Parts.{IsSorted, Does, Halts};
-ghost use Rattle.pv_state.specs.Uses.{IsTerm};
+ghost use Rattle.pv_state.specs.Values.{IsTerm};
 ghost use Rattle.pv_state.specs.States.{AreStores, went_at};
 ghost use Rattle.pv_state.specs.Runs.{begun, run_use, run_new_use};
 

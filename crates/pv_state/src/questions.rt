@@ -1,6 +1,6 @@
 //! Questions on values: what the meaning shows of them decides the answers.
 
-ghost use Rattle.std.specs.Prelude.{◌≡◌, [], ◌∷◌, IfOk, IfErr, OnOk, OnErr, int_le, int_lt, not, nat_eq, ◌≤◌, ◌^◌};
+ghost use Rattle.std.specs.Prelude.{◌≡◌, [], ◌∷◌, IfOk, IfErr, OnOk, OnErr, int_le, int_lt, not, nat_eq};
 ghost use Rattle.pv_values.specs.Heaps.{same_number};
 ghost use Rattle.pv_values.specs.Sames.{same_truth, same_value};
 ghost use Rattle.pv_linear.specs.declared.Sort.TheVariants.{Truth as TruthSort, Reference as ReferenceSort};
@@ -13,8 +13,7 @@ ghost use Rattle.pv_picks.specs.Plain.Trees.{comparison_of};
 ghost use Rattle.pv_picks.specs.Formulas.Values.{or_zero, comparison, equality};
 ghost use Rattle.pv_picks.specs.Lazy.Patterns.{Is, Ordered, Same, order_of, shown_of};
 ghost use Rattle.pv_state.specs.Parts.{StaysSorted, IsSorted, TellsShown, StopsShown};
-ghost use Rattle.pv_state.specs.Values.{value_at, truth_at, is_from, IsMade, IsMadeTruth, plus_of};
-ghost use Rattle.pv_state.specs.Uses.{IsTerm};
+ghost use Rattle.pv_state.specs.Values.{value_at, truth_at, is_from, IsMade, IsMadeTruth, IsTerm};
 
 use crate::uses::is_alike;
 use crate::values::{SymbolTruth, SymbolValue};
@@ -156,7 +155,7 @@ pub fn compare<K: Asker>(
 
 /// Whether two numbers are the same: at most two questions.
 #[tactic(auto, using(crate::proofs::Orders::meet_order, pv_linear::proofs::Pairs::Meet_single))]
-fn are_same_numbers<K: Asker>(a: Term, b: Term, asker: &mut K) -> Result<bool, AskFault>
+pub(crate) fn are_same_numbers<K: Asker>(a: Term, b: Term, asker: &mut K) -> Result<bool, AskFault>
     requires first { IsTerm (K.sorts asker.old) a }
     requires second { IsTerm (K.sorts asker.old) b }
     requires ready { IsSorted K.path K.turns K.decisions K.sorts asker.old }
@@ -223,12 +222,10 @@ pub fn are_same_references<K: Asker>(a: Symbol, b: Symbol, asker: &mut K) -> Res
 }
 
 /// Whether two values of one type are the same. Of values of two types nothing is asked.
-#[tactic(auto, using(crate::proofs::Orders::is_number), unfolding(crate::specs::Values::value_at, crate::specs::Values::IsMade))]
+#[tactic(auto, unfolding(crate::specs::Values::value_at, crate::specs::Values::IsMade))]
 pub fn are_same<K: Asker>(a: SymbolValue, b: SymbolValue, asker: &mut K) -> Result<bool, AskFault>
     requires first { IsMade (K.sorts asker.old) a }
     requires second { IsMade (K.sorts asker.old) b }
-    requires small { plus_of a ≤ 2 ^ 98 }
-    requires close { plus_of b ≤ 2 ^ 98 }
     requires ready { IsSorted K.path K.turns K.decisions K.sorts asker.old }
     ensures asks { OnOk result (Asks K.path K.turns K.decisions K.stands K.ended K.sorts asker.old asker.new) }
     ensures says { IfOk result (λ told. Under K.path K.turns asker.new (λ e. AreUp (K.sorts asker.new) e.values → told ≡ same_value (value_at e.values a) (value_at e.values b))) }

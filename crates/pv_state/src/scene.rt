@@ -1,10 +1,10 @@
 //! What expressions speak of besides locations, and what a run has met, used and picked.
 
-ghost use Rattle.std.specs.Prelude.{◌≡◌, ◌≤◌, List};
+ghost use Rattle.std.specs.Prelude.{◌≡◌, List};
 ghost use Rattle.pv_linear.specs.declared.Sort.{Sort as Sorts};
 ghost use Rattle.pv_linear.specs.Values.{Values};
-ghost use Rattle.pv_state.specs.Values.{value_at, plus_of, IsMade};
-ghost use Rattle.pv_state.specs.States.{variables_at, size_of, AreMade};
+ghost use Rattle.pv_state.specs.Values.{value_at, IsMade};
+ghost use Rattle.pv_state.specs.States.{variables_at, AreMade};
 
 use crate::uses::TabledUse;
 use crate::values::SymbolValue;
@@ -50,11 +50,10 @@ pub struct Stores {
 }
 
 /// The value of a variable.
-#[tactic(auto, using(crate::proofs::Scenes::made_of, crate::proofs::Scenes::size_at), unfolding(crate::specs::Values::value_at, crate::specs::Values::IsMade, pv_linear::specs::Sorts::HasSort, pv_linear::specs::Values::number_of))]
+#[tactic(auto, using(crate::proofs::Scenes::made_of, crate::proofs::Scenes::made_zero), unfolding(crate::specs::Values::value_at, crate::specs::Values::IsMade, pv_linear::specs::Sorts::HasSort, pv_linear::specs::Values::number_of))]
 pub fn lookup(locals: &[Local], name: Name) -> SymbolValue
     ensures value { (v : Values) → value_at v result ≡ variables_at v locals.now name.0 }
     ensures made { (made : List Sorts) → AreMade made locals.now → IsMade made result }
-    ensures size { plus_of result ≤ size_of locals.now }
 {
     for local in locals {
         if local.name == name {

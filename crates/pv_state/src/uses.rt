@@ -9,7 +9,8 @@ ghost use Rattle.pv_linear.specs.Values.{Values, term_value, number_of};
 ghost use Rattle.pv_linear.specs.Evidence.{Evidence, Under, MayBeFull, OnFull};
 ghost use Rattle.pv_linear.specs.Asking.{Asks, Goes, Rests};
 ghost use Rattle.pv_state.specs.Parts.{StaysSorted, IsSorted};
-ghost use Rattle.pv_state.specs.Uses.{IsTerm, IsUse, AreUses, IsFoundUse, use_at, uses_at, shown_at, crossed, both_same, value_of_symbol};
+ghost use Rattle.pv_state.specs.Values.{IsTerm};
+ghost use Rattle.pv_state.specs.Uses.{IsUse, AreUses, IsFoundUse, use_at, uses_at, shown_at, crossed, both_same, value_of_symbol};
 
 use pv_linear::{AskFault, Asker, Symbol, Term, ask_equal};
 use pv_picks::plain::Operation;

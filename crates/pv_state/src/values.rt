@@ -1,14 +1,15 @@
 //! Symbolic values.
-ghost use Rattle.std.specs.Prelude.{◌≡◌, ◌≤◌, pos, unsigned_abs, not, List};
+ghost use Rattle.std.specs.Prelude.{◌≡◌, ◌^◌, IfOk, IfErr, OnOk, not, List};
 ghost use Rattle.pv_linear.specs.declared.Sort.{Sort as Sorts};
-ghost use Rattle.pv_linear.specs.declared.Sort.TheVariants.{Number as NumberSort, Reference as ReferenceSort};
+ghost use Rattle.pv_linear.specs.declared.Sort.TheVariants.{Reference as ReferenceSort};
 ghost use Rattle.pv_linear.specs.Sorts.{HasSort};
 ghost use Rattle.pv_values.specs.declared.value.Value.TheVariants as value;
-ghost use Rattle.pv_linear.specs.Values.{Values, term_value, number_of};
+ghost use Rattle.pv_linear.specs.declared.asker.AskFault.TheVariants.{NoMemory as NoMemoryFault};
+ghost use Rattle.pv_linear.specs.Values.{Values, IsWithin, term_value, number_of};
 ghost use Rattle.pv_picks.specs.Formulas.Values.{number_in, truth_in, or_zero};
-ghost use Rattle.pv_state.specs.Values.{value_at, truth_at, IsMade, IsMadeTruth, plus_of};
+ghost use Rattle.pv_state.specs.Values.{value_at, truth_at, IsTerm, IsMade, IsMadeTruth};
 
-use pv_linear::{Symbol, Term};
+use pv_linear::{AskFault, Symbol, Term};
 
 /// A truth value: one that is known; the number of a symbol, true from 1 on; or its opposite.
 #[derive(Clone, Copy, Debug, PartialEq, Eq, Drop)]
@@ -16,6 +17,23 @@ pub enum SymbolTruth {
     Known(bool),
     From(Symbol),
     Unless(Symbol),
+}
+
+/// How far from zero a number beside a symbol may be: sums of two such, and their differences, fit in a question.
+const FARTHEST: u128 = 1 << 98;
+
+/// The sum of a symbol and a number that is known. Where that is farther from zero than 2^98, which no text within the limits has
+/// the numbers for, it is refused as want of memory is.
+#[tactic(auto, using(crate::proofs::Orders::is_number, pv_linear::proofs::Bounds::within_abs))]
+pub fn term(symbol: Symbol, plus: i128) -> Result<Term, AskFault>
+    ensures term { IfOk result (λ t. t ≡ record { symbol = symbol; plus = plus }) }
+    ensures near { OnOk result (IsWithin (2 ^ 98) plus) }
+    ensures fault { IfErr result (λ fault. fault ≡ NoMemoryFault) }
+{
+    if plus.unsigned_abs() > FARTHEST {
+        return Err(AskFault::NoMemory);
+    }
+    Ok(Term { symbol, plus })
 }
 
 /// A value: a number, a truth value, or a reference.
@@ -32,22 +50,8 @@ impl SymbolValue {
     pub fn known(truth: bool) -> SymbolValue
         ensures value { (v : Values) → value_at v result ≡ value.Truth truth }
         ensures made { (made : List Sorts) → IsMade made result }
-        ensures size { plus_of result ≡ 0 }
     {
         SymbolValue::Truth(SymbolTruth::Known(truth))
-    }
-
-    /// The number itself.
-    #[tactic(auto, unfolding(crate::specs::Values::value_at, crate::specs::Values::IsMade, pv_linear::specs::Sorts::HasSort, pv_linear::specs::Values::number_of))]
-    pub fn constant(number: i128) -> SymbolValue
-        ensures value { (v : Values) → value_at v result ≡ value.Number number }
-        ensures made { (made : List Sorts) → IsMade made result }
-        ensures size { plus_of result ≡ unsigned_abs number }
-    {
-        SymbolValue::Number(Term {
-            symbol: Symbol::ZERO,
-            plus: number,
-        })
     }
 
     /// The reference that a symbol stands for.
@@ -55,7 +59,6 @@ impl SymbolValue {
     pub fn reference(symbol: Symbol) -> SymbolValue
         ensures value { (v : Values) → value_at v result ≡ value.Reference (or_zero (number_of v symbol.0)) }
         ensures made { (made : List Sorts) → HasSort made ReferenceSort symbol.0 → IsMade made result }
-        ensures size { plus_of result ≡ 0 }
     {
         SymbolValue::Reference(symbol)
     }
@@ -64,8 +67,7 @@ impl SymbolValue {
     #[tactic(auto, unfolding(crate::specs::Values::value_at, crate::specs::Values::IsMade, pv_linear::specs::Sorts::HasSort, pv_linear::specs::Values::number_of))]
     pub fn number(self) -> Term
         ensures value { (v : Values) → term_value v result ≡ number_in (value_at v self) }
-        ensures made { (made : List Sorts) → IsMade made self → HasSort made NumberSort result.symbol.0 }
-        ensures size { unsigned_abs result.plus ≤ plus_of self }
+        ensures made { (made : List Sorts) → IsMade made self → IsTerm made result }
     {
         match self {
             SymbolValue::Number(term) => term,

@@ -4,7 +4,8 @@ use Rattle.pv_linear.specs.Evidence.{Evidence, Follows, Under}
 use Rattle.pv_linear.specs.Decisions.{Level}
 use Rattle.pv_linear.specs.Asking.{Asks, Together}
 use Rattle.pv_state.specs.Parts.{StaysSorted, IsSorted}
-use Rattle.pv_state.specs.Uses.{use_at, uses_at, shown_at, AreUses, IsTerm}
+use Rattle.pv_state.specs.Values.{IsTerm}
+use Rattle.pv_state.specs.Uses.{use_at, uses_at, shown_at, AreUses}
 use Rattle.pv_state.proofs.uses.find.Given as goal
 
 -- what is left finds and shows what the whole does
@@ -20,7 +21,7 @@ invariant-loop-u g l =
           → Follows (K.path l.initial.asker) (K.turns l.initial.asker) f → Level (K.decisions l.initial.asker) e f
           → shown_at e.values l.operation l.a l.b l.uses ≡ shown_at f.values l.operation l.a l.b l.uses
           → Together K.path K.turns K.decisions l.asker e f (shown_at e.values l.operation l.a l.b rest
-              ≡ shown_at f.values l.operation l.a l.b rest);
+          ≡ shown_at f.values l.operation l.a l.b rest);
       sorted : StaysSorted K.path K.turns K.decisions K.sorts l.initial.asker l.asker;
       still : IsSorted K.path K.turns K.decisions K.sorts l.asker;
       a : IsTerm (K.sorts l.asker) l.a;
