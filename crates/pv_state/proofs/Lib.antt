@@ -5,6 +5,8 @@ pub mod Taken
 pub mod Tabled
 pub mod Sums
 pub mod Operating
+pub mod Sequences
+pub mod Evaluating
 pub mod Truths
 pub mod Orders
 pub mod Scenes

@@ -23,7 +23,9 @@ use Rattle.pv_picks.specs.Lazy.Patterns.{Shown, Ordered, order_of, shown_of}
 use Rattle.pv_state.specs.declared.operands.Operand.{Operand}
 use Rattle.pv_state.specs.Runs.{operand_at}
 use Rattle.pv_state.specs.Parts.{TellsShown, StopsShown}
-use Rattle.pv_state.specs.Values.{IsTerm}
+use Rattle.pv_linear.specs.Sorts.{HasSort}
+use Rattle.pv_state.specs.declared.values.SymbolValue.TheVariants.{Number}
+use Rattle.pv_state.specs.Values.{IsTerm, IsMade, value_at}
 
 pub sum_known : (v : Values) (a known t : Term) (plus : ℤ) → t ≡ record { symbol = a.symbol; plus = plus }
     → known.symbol.0 ≡ 0 → plus ≡ a.plus +ℤ known.plus → term_value v t ≡ term_value v a +ℤ term_value v known
@@ -138,3 +140,13 @@ unfolding number_of
 lowered_known v a known t plus opposite e s o p =
     let z : number_of v known.symbol.0 ≡ pos 0 = ap (λ k. number_of v k) s in
     ap (λ u. term_value v u) e ∙ search (rules, ints, z, o, p)
+
+pub constant_at : (v : Values) (t : Term) (z : ℤ) → t ≡ record { symbol = record { 0 = 0 }; plus = z }
+    → value_at v (Number t) ≡ value.Number z
+unfolding value_at number_of
+constant_at v t z p = ap (λ u. value.Number (term_value v u)) p ∙ ap (λ x. value.Number x) (search (rules, ints))
+
+pub constant_made : (made : List Sort) (t : Term) (z : ℤ) → t ≡ record { symbol = record { 0 = 0 }; plus = z }
+    → IsWithin (2 ^ 98) z → IsMade made (Number t)
+unfolding IsMade HasSort
+constant_made made t z p near = subst (λ u. IsTerm made u) (sym p) (record { sort = tt; near = near })

@@ -4,7 +4,7 @@ use Rattle.std.specs.Prelude.{◌≤ℤ◌, map, slice_get, Some}
 use Rattle.std.proofs.Math.Logic.{∥∥₁_map}
 use Rattle.std.proofs.lemmas.List.{append-nil, append_assoc}
 use Rattle.std.proofs.lemmas.Int.{ints}
-use Rattle.std.specs.Prelude.{OnErr}
+use Rattle.std.specs.Prelude.{IfOk, OnErr}
 use Rattle.std.specs.declared.result.Result.{Result}
 use Rattle.std.specs.declared.result.Result.TheVariants.{Ok, Err}
 use Rattle.pv_ast.specs.declared.PvType.{PvType}
@@ -245,3 +245,11 @@ module _ {S : Type 0} (path : S → List Literal) (turns : S → List ℕ) (deci
 pub when_err : {T E P : Type 0} (r : Result T E) → P → OnErr r P
 when_err (Ok x) p = tt
 when_err (Err e) p = p
+
+pub err_then : {T E P Q : Type 0} (r : Result T E) → (P → Q) → OnErr r P → OnErr r Q
+err_then (Ok x) f p = tt
+err_then (Err e) f p = f p
+
+pub ok_then : {T E : Type 0} (r : Result T E) (P Q : T → Type 0) → ((x : T) → P x → Q x) → IfOk r P → IfOk r Q
+ok_then (Ok x) P Q f p = f x p
+ok_then (Err e) P Q f p = tt

@@ -1,7 +1,6 @@
 //! Symbolic runs of parts of a unit, over any asker.
 #![tactic(auto)]
 
-mod eval;
 mod operands;
 mod operations;
 mod questions;

@@ -12,14 +12,14 @@ ghost use Rattle.pv_linear.specs.Keeping.{AreUp};
 ghost use Rattle.pv_picks.specs.Plain.Trees.{comparison_of, operation_of};
 ghost use Rattle.pv_picks.specs.Formulas.Values.{number_in, truth_in, arithmetic, comparison};
 ghost use Rattle.pv_picks.specs.Lazy.Parts.{of_old};
-ghost use Rattle.pv_picks.specs.Lazy.Patterns.{Ordered, order_of, shown_of};
+ghost use Rattle.pv_picks.specs.Lazy.Patterns.{Is, Ordered, order_of, shown_of};
 ghost use Rattle.pv_state.specs.Parts.{StaysSorted, IsSorted, TellsShown, StopsShown, Does, Halts};
 ghost use Rattle.pv_state.specs.Values.{IsMade, IsMadeTruth, IsTerm, value_at, truth_at};
 ghost use Rattle.pv_state.specs.States.{AreStores, went_at};
 ghost use Rattle.pv_state.specs.Runs.{IsMadeOperand, operand_at, reading_at, begun, run_operation};
 
 use crate::operations::value_of_use;
-use crate::questions::{are_same, are_same_numbers, compare};
+use crate::questions::{are_same, are_same_numbers, compare, is_true};
 use crate::scene::{Stores, SymbolScene};
 use crate::values::{SymbolTruth, SymbolValue, term};
 use pv_base::Span;
@@ -91,6 +91,30 @@ impl Operand {
     }
 }
 
+/// The value of a number that is known.
+#[tactic(auto, using(crate::proofs::Sums::constant_at, crate::proofs::Sums::constant_made))]
+fn number_value(number: i128) -> Result<SymbolValue, AskFault>
+    ensures value { IfOk result (λ x. (v : Values) → value_at v x ≡ value.Number number) }
+    ensures made { IfOk result (λ x. (made : List Sorts) → IsMade made x) }
+    ensures fault { IfErr result (λ fault. fault ≡ NoMemoryFault) }
+{
+    let t = term(Symbol::ZERO, number)?;
+    Ok(SymbolValue::Number(t))
+}
+
+/// The value of null.
+#[tactic(auto, unfolding(crate::specs::Values::value_at, crate::specs::Values::IsMade, pv_linear::specs::Sorts::HasSort, pv_linear::specs::Values::number_of))]
+fn null_value(number: u128) -> Result<SymbolValue, AskFault>
+    ensures value { IfOk result (λ x. (v : Values) → value_at v x ≡ value.Reference number) }
+    ensures made { IfOk result (λ x. (made : List Sorts) → IsMade made x) }
+    ensures fault { IfErr result (λ fault. fault ≡ NoMemoryFault) }
+{
+    if number != 0 {
+        return Err(AskFault::NoMemory);
+    }
+    Ok(SymbolValue::Reference(Symbol::ZERO))
+}
+
 /// A constant. A number farther from zero than 2^98 and a reference other than null are refused: no program has one.
 pub fn constant(value: Value) -> Result<Operand, AskFault>
     ensures value { IfOk result (λ x. (v : Values) → operand_at v x ≡ value) }
@@ -99,12 +123,14 @@ pub fn constant(value: Value) -> Result<Operand, AskFault>
 {
     match value {
         Value::Number(number) => {
-            let t = term(Symbol::ZERO, number)?;
-            Ok(Operand::One(SymbolValue::Number(t)))
+            let value = number_value(number)?;
+            Ok(Operand::One(value))
         }
         Value::Truth(truth) => Ok(Operand::One(SymbolValue::known(truth))),
-        Value::Reference(0) => Ok(Operand::One(SymbolValue::reference(Symbol::ZERO))),
-        Value::Reference(_) => Err(AskFault::NoMemory),
+        Value::Reference(number) => {
+            let value = null_value(number)?;
+            Ok(Operand::One(value))
+        }
     }
 }
 
@@ -208,6 +234,24 @@ pub(crate) fn compare_operands<K: Asker>(
 {
     let (l, r) = sides(a, b)?;
     let told = compare(order, l, r, asker)?;
+    Ok(told)
+}
+
+/// Whether an operand is true. One that is no truth value isn't.
+pub(crate) fn decide<K: Asker>(a: Operand, asker: &mut K) -> Result<bool, AskFault>
+    requires made { IsMadeOperand (K.sorts asker.old) a }
+    requires ready { IsSorted K.path K.turns K.decisions K.sorts asker.old }
+    ensures asks { OnOk result (Asks K.path K.turns K.decisions K.stands K.ended K.sorts asker.old asker.new) }
+    ensures says { IfOk result (λ told. Under K.path K.turns asker.new (λ e. told ≡ truth_in (operand_at e.values a))) }
+    ensures tells { OnOk result (TellsShown K.path K.turns K.decisions K.sorts asker.old asker.new (λ e. Is (truth_in (operand_at e.values a)) ∷ [])) }
+    ensures sorted { OnOk result (StaysSorted K.path K.turns K.decisions K.sorts asker.old asker.new) }
+    ensures stops { OnErr result (Goes K.path K.turns K.decisions K.stands K.ended asker.old asker.new) }
+    ensures stopped { OnErr result (StopsShown K.path K.turns K.decisions K.sorts asker.old asker.new (λ e. Is (truth_in (operand_at e.values a)) ∷ [])) }
+    ensures stopped_sorted { OnErr result (StaysSorted K.path K.turns K.decisions K.sorts asker.old asker.new) }
+    ensures same_sorts { K.sorts asker.new ≡ K.sorts asker.old }
+    ensures full { IfErr result (λ fault. OnFull fault (MayBeFull (K.path asker.new) (K.sorts asker.new))) }
+{
+    let told = is_true(a.truth(), asker)?;
     Ok(told)
 }
 
