@@ -1,31 +1,23 @@
 -- The parts of expressions in sequence: two values and what is done with them, and a value that decides whether there is another.
-use Rattle.std.proofs.Common.{◌≡◌, ℕ, ℤ, Bool, true, false, List, [], ◌∷◌, length, refl, sym, ap, subst, ◌∙◌, if◌then◌else◌}
-use Rattle.std.specs.Prelude.{not, IfOk}
-use Rattle.std.specs.declared.result.Result.{Result}
-use Rattle.pv_base.specs.declared.Span.{Span}
+use Rattle.std.proofs.Common.{◌≡◌, ℕ, Bool, true, false, List, [], ◌∷◌, sym, subst, if◌then◌else◌}
+use Rattle.std.specs.Prelude.{not}
 use Rattle.pv_values.specs.declared.value.Value.{Value}
 use Rattle.pv_values.specs.declared.value.Value.TheVariants as value
-use Rattle.pv_values.specs.Sames.{same_value}
 use Rattle.pv_linear.specs.declared.Sort.{Sort}
 use Rattle.pv_linear.specs.declared.Literal.{Literal}
-use Rattle.pv_linear.specs.declared.asker.AskFault.{AskFault}
-use Rattle.pv_linear.specs.Evidence.{Evidence, Follows, Under}
+use Rattle.pv_linear.specs.Evidence.{Evidence, Under}
 use Rattle.pv_linear.specs.Decisions.{Decision}
 use Rattle.pv_linear.specs.Asking.{Goes, Asks}
-use Rattle.pv_linear.specs.Keeping.{AreUp}
 use Rattle.pv_picks.specs.Plain.Core as core
-use Rattle.pv_picks.specs.Formulas.Values.{number_in, truth_in, comparison, equality}
-use Rattle.pv_picks.specs.Judge.Settings.{operate}
-use Rattle.pv_picks.specs.Lazy.Patterns.{Shown, Ordered, Is, order_of, shown_of}
-use Rattle.pv_picks.specs.Lazy.Parts.{Came, Ran, Part, chain, gone, hooks}
+use Rattle.pv_picks.specs.Formulas.Values.{truth_in}
+use Rattle.pv_picks.specs.Lazy.Patterns.{Is}
+use Rattle.pv_picks.specs.Lazy.Parts.{Came, Part, chain, gone, hooks}
 use Rattle.pv_state.specs.declared.scene.SymbolScene.{SymbolScene}
 use Rattle.pv_state.specs.declared.scene.Stores.{Stores}
 use Rattle.pv_state.specs.declared.operands.Operand.{Operand}
 use Rattle.pv_state.specs.declared.operands.Reading.{Reading}
-use Rattle.pv_state.specs.Parts.{Does, Halts, Ready, StaysSorted, IsSorted, TellsShown, StopsShown}
-use Rattle.pv_state.specs.States.{state_at, memory_at, drawn_at, went_at}
-use Rattle.pv_state.specs.Runs.{operand_at, begun, run_plain}
-use Rattle.pv_state.proofs.Asked.{ready_sorted}
+use Rattle.pv_state.specs.Parts.{StaysSorted, IsSorted, TellsShown, StopsShown}
+use Rattle.pv_state.specs.Runs.{operand_at, run_plain}
 use Rattle.pv_state.proofs.Sequences as sequences
 use Rattle.pv_state.proofs.Sequences.{at, Done, Halted, MayBegin}
 

@@ -7,6 +7,7 @@ pub mod Sums
 pub mod Operating
 pub mod Sequences
 pub mod Evaluating
+pub mod Expressing
 pub mod Truths
 pub mod Orders
 pub mod Scenes

@@ -1,5 +1,5 @@
 -- What an operation gives: it is worked out, or a use of a tabled one.
-use Rattle.std.proofs.Common.{◌≡◌, ℕ, ℤ, pos, List, length, refl, sym, ap, subst, ◌∙◌, arith, rules}
+use Rattle.std.proofs.Common.{◌≡◌, ℕ, ℤ, pos, List, length, refl, ap, subst, ◌∙◌, arith, rules}
 use Rattle.std.proofs.Math.Path.{fun_ext}
 use Rattle.pv_base.specs.declared.Span.{Span}
 use Rattle.pv_values.specs.declared.value.Value.{Value}
@@ -22,7 +22,7 @@ use Rattle.pv_state.specs.declared.scene.Stores.{Stores}
 use Rattle.pv_state.specs.declared.operands.Operand.{Operand}
 use Rattle.pv_state.specs.declared.values.SymbolValue.TheVariants.{Number}
 use Rattle.pv_state.specs.Parts.{Does, Halts}
-use Rattle.pv_state.specs.Values.{IsTerm, IsMade, value_at}
+use Rattle.pv_state.specs.Values.{IsMade, value_at}
 use Rattle.pv_state.specs.States.{state_at, memory_at, drawn_at, went_at}
 use Rattle.pv_state.specs.Runs.{operand_at, begun, run_use, run_operation}
 use Rattle.pv_state.proofs.Asked.{does_here}
@@ -44,7 +44,8 @@ module _ {S A : Type 0} (path : S → List Literal) (turns : S → List ℕ) (de
       → Does path turns decisions stands ended sorts old new y came
   does_same came h = subst (λ o. Does path turns decisions stands ended sorts old new o came) (fun_ext same) h
 
-  pub halts_same : Halts path turns decisions stands ended sorts old new x → Halts path turns decisions stands ended sorts old new y
+  pub halts_same : Halts path turns decisions stands ended sorts old new x
+      → Halts path turns decisions stands ended sorts old new y
   halts_same h = subst (λ o. Halts path turns decisions stands ended sorts old new o) (fun_ext same) h
 
 module _ {S : Type 0} (path : S → List Literal) (turns : S → List ℕ) (decisions : S → List Decision)

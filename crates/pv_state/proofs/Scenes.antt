@@ -1,5 +1,5 @@
 -- What is found in scenes.
-use Rattle.std.proofs.Common.{ℕ, zero, suc, ◌<◌, ◌≤◌, List, [], ◌∷◌, ◌++◌, length, arith}
+use Rattle.std.proofs.Common.{ℕ, zero, suc, ◌<◌, List, [], ◌∷◌, ◌++◌, length, arith}
 use Rattle.std.specs.Prelude.{slice_index_or}
 use Rattle.pv_linear.specs.declared.Sort.{Sort}
 use Rattle.pv_linear.specs.declared.Sort.TheVariants as sort
@@ -49,3 +49,7 @@ scene_more made more s h = record {
 pub made_zero : (made : List Sort) → IsMade made (Number (record { symbol = record { 0 = 0 }; plus = pos 0 }))
 unfolding IsMade HasSort
 made_zero made = is_number made _ tt (omega arith)
+
+pub made_of_truth : (made : List Sort) (t : SymbolTruth) → IsMadeTruth made t → IsMade made (Truth t)
+unfolding IsMade
+made_of_truth made t h = h

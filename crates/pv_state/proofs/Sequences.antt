@@ -1,7 +1,5 @@
 -- Parts in sequence, as calls do them: one part and then another, a question and what it decides.
-use Rattle.std.proofs.Common.{◌≡◌, ℕ, Bool, true, false, List, [], ◌∷◌, ◌++◌, length, refl, sym, ap, subst, ◌∙◌, if◌then◌else◌}
-use Rattle.pv_values.specs.declared.value.Value.{Value}
-use Rattle.pv_values.specs.declared.value.Value.TheVariants as value
+use Rattle.std.proofs.Common.{◌≡◌, ℕ, Bool, List, [], ◌∷◌, length, sym, ap, subst, ◌∙◌, if◌then◌else◌}
 use Rattle.pv_linear.specs.declared.Sort.{Sort}
 use Rattle.pv_linear.specs.declared.Literal.{Literal}
 use Rattle.pv_linear.specs.Evidence.{Evidence, Follows, Under}
@@ -9,10 +7,8 @@ use Rattle.pv_linear.specs.Decisions.{Decision, IsFront}
 use Rattle.pv_linear.specs.Asking.{Goes, Asks}
 use Rattle.pv_linear.specs.Keeping.{AreUp}
 use Rattle.pv_picks.specs.Lazy.Patterns.{Shown, Is}
-use Rattle.pv_picks.specs.Lazy.Runs.{Lazily, Drawn, showing, at_end}
-use Rattle.pv_picks.specs.Judge.States.{State}
-use Rattle.pv_picks.specs.Lazy.Parts.{Came, Ran, Part, chain, gone, hooks}
-use Rattle.pv_picks.specs.Lazy.Parts as parts
+use Rattle.pv_picks.specs.Lazy.Runs.{showing, at_end}
+use Rattle.pv_picks.specs.Lazy.Parts.{Came, Ran, Part, chain, gone}
 use Rattle.pv_state.specs.declared.scene.SymbolScene.{SymbolScene}
 use Rattle.pv_state.specs.declared.scene.Stores.{Stores}
 use Rattle.pv_state.specs.Parts.{Does, Halts, Ready, StaysSorted, IsSorted, TellsShown, StopsShown}

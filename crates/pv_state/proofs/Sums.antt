@@ -1,10 +1,8 @@
 -- Sums and differences of terms.
-use Rattle.std.proofs.Common.{◌≡◌, ℕ, zero, ℤ, pos, List, [], ◌∷◌, refl, sym, ap, subst, ◌∙◌, arith, rules}
+use Rattle.std.proofs.Common.{◌≡◌, ℕ, ℤ, pos, List, [], ◌∷◌, sym, ap, subst, ◌∙◌, rules}
 use Rattle.std.specs.Prelude.{◌+ℤ◌, ◌-ℤ◌, ◌^◌, int_lt}
 use Rattle.std.proofs.lemmas.Int.{ints}
 use Rattle.pv_linear.specs.declared.Sort.{Sort}
-use Rattle.pv_linear.specs.declared.Sort.TheVariants as sort
-use Rattle.pv_linear.specs.declared.Symbol.{Symbol}
 use Rattle.pv_linear.specs.declared.Term.{Term}
 use Rattle.pv_linear.specs.Values.{Values, IsWithin, number_of, term_value}
 use Rattle.std.proofs.Math.Path.{fun_ext}
@@ -88,7 +86,8 @@ module _ (a b : Operand) (l r : Term)
 
   pub sides_order : (v : Values)
       → order_of (term_value v l) (term_value v r) ≡ order_of (number_in (operand_at v a)) (number_in (operand_at v b))
-  sides_order v = order_alike (number_in (operand_at v a)) (number_in (operand_at v b)) (term_value v l) (term_value v r) (differ v)
+  sides_order v = order_alike (number_in (operand_at v a)) (number_in (operand_at v b)) (term_value v l) (term_value v r)
+      (differ v)
 
   pub sides_told : (c : Comparison) (v : Values) → comparison (comparison_of c) (term_value v l) (term_value v r)
       ≡ comparison (comparison_of c) (number_in (operand_at v a)) (number_in (operand_at v b))

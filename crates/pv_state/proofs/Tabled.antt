@@ -1,6 +1,6 @@
 -- A use of a tabled operation that there was none of: its value is taken.
-use Rattle.std.proofs.Common.{◌≡◌, ℕ, zero, suc, ◌+◌, ℤ, pos, List, [], ◌∷◌, ◌++◌, length, length-append, refl, sym, ap, subst, ◌∙◌, inl, inr, arith, rules}
-use Rattle.std.specs.Prelude.{map, ◌+ℤ◌, Option, Some, None, slice_get}
+use Rattle.std.proofs.Common.{◌≡◌, ℕ, suc, ◌+◌, ℤ, pos, List, [], ◌∷◌, ◌++◌, length, length-append, refl, sym, ap, subst, ◌∙◌, inl, inr, arith, rules}
+use Rattle.std.specs.Prelude.{Option, Some, None, slice_get}
 use Rattle.std.proofs.lemmas.Int.{ints}
 use Rattle.pv_ast.specs.declared.PvType.TheVariants.{Int}
 use Rattle.pv_values.specs.declared.value.Value.{Value}
@@ -143,14 +143,16 @@ module _ {S : Type 0} (path : S → List Literal) (turns : S → List ℕ) (deci
       same : (e : Evidence) → came e
           ≡ went_at e own next (value.Number (term_value e.values t)) (length (sorts new)) (length (turns new))
       same e =
-          let z : e.values (length (sorts old)) ≡ term_value e.values t = new_number e.values (length (sorts old)) t symbol plus in
+          let z : e.values (length (sorts old)) ≡ term_value e.values t = new_number e.values (length (sorts old)) t symbol
+              plus in
           let y : e.values (length (sorts old)) ≡ number_of e.values t.symbol.0 =
           new_number e.values (length (sorts old)) (record { symbol = t.symbol; plus = pos 0 }) symbol refl
           ∙ search (rules, ints) in
           let us : uses_at e.values next.uses.items ≡ uses_at e.values stores.uses.items
           ++ record { used = use_at e.values operation a b; value = e.values (length (sorts old)) } ∷ [] =
           ap (λ xs. uses_at e.values xs) uses ∙ uses_append e.values stores.uses.items _
-          ∙ ap (λ n. uses_at e.values stores.uses.items ++ record { used = use_at e.values operation a b; value = n } ∷ []) (sym y) in
+          ∙ ap (λ n. uses_at e.values stores.uses.items ++ record { used = use_at e.values operation a b; value = n } ∷ [])
+              (sym y) in
           let n : suc (length (sorts old)) ≡ length (sorts new) =
           let l : length (sorts new) ≡ length (sorts old) + 1 =
           ap (λ ts. length ts) made ∙ length-append (sorts old) (Number ∷ []) in omega (arith, l) in
@@ -218,7 +220,8 @@ module _ {S : Type 0} (path : S → List Literal) (turns : S → List ℕ) (deci
   use_found found s some asks rests sorted says =
       does_shown path turns decisions stands ended sorts old mid mid shows behind (λ e. at_end (came e)) asks
       (used_tells path turns decisions sorts old mid operation a b stores.uses.items (subst Rested is rests)) sorted
-      (λ e f up. ap (λ found. value_in found e) (sym (subst (Found (Some s)) is (subst (λ o. Found o us) some says) e f)) ∙ same e) came
+      (λ e f up. ap (λ found. value_in found e) (sym (subst (Found (Some s)) is (subst (λ o. Found o us) some says) e f)) ∙
+          same e) came
       (does_here path turns decisions stands ended sorts mid came)
     where
       came : Evidence → Came Value
@@ -237,13 +240,15 @@ module _ {S : Type 0} (path : S → List Literal) (turns : S → List ℕ) (deci
     rest = begun (run_new_use operation a b) own stores (length (sorts mid)) (length (turns mid))
 
     same : (e : Evidence) → Follows (path mid) (turns mid) e → AreUp (sorts mid) e.values → behind e ≡ rest e
-    same e f up = ap (λ found. value_in found e) (sym (subst (Found None) is (subst (λ o. Found o us) none says) e f)) ∙ cc (asks.sorts_same, asks.turns_same)
+    same e f up = ap (λ found. value_in found e) (sym (subst (Found None) is (subst (λ o. Found o us) none says) e f)) ∙ cc
+        (asks.sorts_same, asks.turns_same)
 
     pub use_made : (new : S) (came : Evidence → Came Value) → Does path turns decisions stands ended sorts mid new rest came
         → Does path turns decisions stands ended sorts old new
         (begun (run_use operation a b) own stores (length (sorts old)) (length (turns old))) came
     use_made new came two = does_shown path turns decisions stands ended sorts old mid new shows behind rest asks
-        (used_tells path turns decisions sorts old mid operation a b stores.uses.items (subst Rested is rests)) sorted same came two
+        (used_tells path turns decisions sorts old mid operation a b stores.uses.items (subst Rested is rests)) sorted same
+            came two
 
     pub use_refused : (new : S) → Halts path turns decisions stands ended sorts mid new rest
         → Halts path turns decisions stands ended sorts old new

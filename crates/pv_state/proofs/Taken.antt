@@ -1,5 +1,5 @@
 -- What a part takes before what comes next: a symbol was made for it.
-use Rattle.std.proofs.Common.{◌≡◌, ℕ, zero, suc, ◌+◌, ◌≤◌, ℤ, pos, negsuc, List, [], ◌∷◌, ◌++◌, length, length-append, refl, sym, ap, subst, ◌∙◌, ◌⊎◌, inl, inr, arith, rules}
+use Rattle.std.proofs.Common.{◌≡◌, ℕ, zero, suc, ◌+◌, ℤ, pos, negsuc, List, [], ◌∷◌, ◌++◌, length, length-append, refl, sym, ap, subst, ◌∙◌, ◌⊎◌, inl, inr, arith, rules}
 use Rattle.std.specs.Prelude.{◌≤ℤ◌, map, slice_get, Some}
 use Rattle.std.proofs.Math.Logic.{∥∥₁_map}
 use Rattle.std.proofs.lemmas.List.{append-nil, append_assoc}
@@ -14,15 +14,14 @@ use Rattle.pv_linear.specs.declared.Literal.{Literal}
 use Rattle.pv_linear.specs.Values.{Values}
 use Rattle.pv_linear.specs.Evidence.{Evidence, HasTurns, Follows, Under}
 use Rattle.pv_linear.specs.Decisions.{Decision, IsFront}
-use Rattle.pv_linear.specs.Asking.{Goes, Meet, Together, Stays}
+use Rattle.pv_linear.specs.Asking.{Goes, Stays}
 use Rattle.pv_linear.specs.Keeping.{AreUp, Tracks, AreSorted}
-use Rattle.pv_linear.proofs.SortedLemmas.{tracks_ended}
 use Rattle.pv_picks.specs.Judge.States.{State}
-use Rattle.pv_picks.specs.Lazy.Runs.{taking, at_end, Lazily, Drawn, Final, final}
+use Rattle.pv_picks.specs.Lazy.Runs.{taking, Lazily, Drawn, Final, final}
 use Rattle.pv_picks.specs.Lazy.Parts.{Came, Ran, after, then_run}
 use Rattle.pv_picks.specs.Lazy.Parts as parts
-use Rattle.pv_state.specs.Parts.{sort_of, sorts_in, IsUp, IsFitEnd, HasEnded, Took, IsLeft, Reaches, Does, Halts, Ready, StaysSorted}
-use Rattle.pv_state.proofs.Fronts.{front_all, front_then, up_before}
+use Rattle.pv_state.specs.Parts.{sort_of, sorts_in, IsUp, IsFitEnd, HasEnded, Took, Reaches, Does, Halts, Ready, StaysSorted}
+use Rattle.pv_state.proofs.Fronts.{front_all, front_then}
 
 -- the part ends where the number that it takes is negative in the place of a reference
 abbrev pub Falls : {A : Type 0} → List Sort → List Sort → Values → Ran A → Type 0
@@ -38,7 +37,8 @@ get_less (x ∷ xs) s t (suc k) h = elim (get_less xs s t k h) [
   | inr p ↦ inr (omega (arith, p.0), p.1)
 ]
 
-pub up_to : (xs : List Sort) (s : Sort) (v : Values) → AreUp xs v → (s ≡ Reference → pos 0 ≤ℤ v (length xs)) → AreUp (xs ++ s ∷ []) v
+pub up_to : (xs : List Sort) (s : Sort) (v : Values) → AreUp xs v → (s ≡ Reference → pos 0 ≤ℤ v (length xs))
+    → AreUp (xs ++ s ∷ []) v
 up_to xs s v up here k h = elim (get_less xs s Reference k h) [
   | inl p ↦ up k p
   | inr p ↦ subst (λ n. pos 0 ≤ℤ v n) (sym p.0) (here p.1)
@@ -70,7 +70,8 @@ unfolding IsUp
 up_taken before mid v type z r made up = subst (λ ts. AreUp ts v) (sym (next_to before mid type z r made)) up
 
 took_taken : {A : Type 0} (before mid last : List Sort) (v : Values) (type : PvType) (z : ℤ) (r : Ran A)
-    → mid ≡ before ++ sort_of type ∷ [] → AreUp before v → Falls before mid v r → IsFront mid last → (AreUp mid v → Took mid last v r)
+    → mid ≡ before ++ sort_of type ∷ [] → AreUp before v → Falls before mid v r → IsFront mid last → (AreUp mid v
+        → Took mid last v r)
     → Took before last v (taking type z r)
 unfolding Took
 took_taken before mid last v type z r made up falls front took = go (up_or_not before (sort_of type) v up)

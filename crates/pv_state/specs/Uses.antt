@@ -1,5 +1,5 @@
 -- Uses of tabled operations: what terms stand for, and what a use shows.
-use Rattle.std.specs.Prelude.{◌^◌, ℤ, Bool, ◌&&◌, Option, Some, None, List, [], ◌∷◌, map}
+use Rattle.std.specs.Prelude.{ℤ, Bool, ◌&&◌, Option, Some, None, List, [], ◌∷◌, map}
 use Rattle.pv_values.specs.Heaps.{same_number}
 use Rattle.pv_picks.specs.declared.plain.Operation.{Operation}
 use Rattle.pv_picks.specs.Plain.Trees.{operation_of}

@@ -1,6 +1,7 @@
 //! Symbolic runs of parts of a unit, over any asker.
 #![tactic(auto)]
 
+mod eval;
 mod operands;
 mod operations;
 mod questions;

@@ -1,6 +1,6 @@
 //! Operands: values, and differences of two numbers that stand in a comparison.
 
-ghost use Rattle.std.specs.Prelude.{◌≡◌, [], ◌∷◌, IsTrue, ◌+ℤ◌, ◌-ℤ◌, IfOk, IfErr, OnOk, OnErr, pos, length, List};
+ghost use Rattle.std.specs.Prelude.{◌≡◌, [], ◌∷◌, IsTrue, not, ◌+ℤ◌, ◌-ℤ◌, IfOk, IfErr, OnOk, OnErr, pos, length, List};
 ghost use Rattle.pv_values.specs.declared.value.Value.TheVariants as value;
 ghost use Rattle.pv_values.specs.Sames.{same_value};
 ghost use Rattle.pv_linear.specs.declared.Sort.{Sort as Sorts};
@@ -64,6 +64,15 @@ impl Operand {
             Operand::One(value) => value.truth(),
             Operand::Difference(_, _) => SymbolTruth::Known(false),
         }
+    }
+
+    /// The opposite of the truth value that it is.
+    #[tactic(auto, unfolding(crate::specs::Values::value_at, crate::specs::Values::IsMade))]
+    pub fn opposite(self) -> Operand
+        ensures value { (v : Values) → operand_at v result ≡ value.Truth (not (truth_in (operand_at v self))) }
+        ensures made { (made : List Sorts) → IsMadeOperand made self → IsMadeOperand made result }
+    {
+        Operand::One(SymbolValue::Truth(self.truth().opposite()))
     }
 
     /// Whether it is a number.

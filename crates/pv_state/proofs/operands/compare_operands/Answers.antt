@@ -7,7 +7,8 @@ pub compare-requires-clause-first : goal.compare-requires-clause-first
 compare-requires-clause-first g c = c.in_ok-l.ensures.first (g.K.Asker.sorts c.args.asker.now) c.requires.first c.requires.second
 
 pub compare-requires-clause-second : goal.compare-requires-clause-second
-compare-requires-clause-second g c = c.in_ok-l.ensures.second (g.K.Asker.sorts c.args.asker.now) c.requires.first c.requires.second
+compare-requires-clause-second g c = c.in_ok-l.ensures.second (g.K.Asker.sorts c.args.asker.now) c.requires.first
+    c.requires.second
 
 pub returns-in_err-told-clause-stopped : goal.returns-in_err-told-clause-stopped
 returns-in_err-told-clause-stopped g c =
