@@ -1,5 +1,5 @@
 -- A drawn run ends unfit just behind a negative number in the place of a reference.
-use Rattle.std.proofs.Common.{◌≡◌, ◌⊎◌, inl, inr, ◌<◌, ℕ, suc, ℤ, pos, negsuc, Bool, true, false, if◌then◌else◌, Option, Some, None, List, [], ◌∷◌, refl, sym, subst, arith, rules}
+use Rattle.std.proofs.Common.{◌≡◌, inl, inr, ◌<◌, ℕ, suc, ℤ, pos, negsuc, Bool, true, false, if◌then◌else◌, Option, Some, None, ◌∷◌, refl, sym, subst, rules}
 use Rattle.std.specs.Prelude.{nat_lt, ◌<ℤ◌}
 use Rattle.std.proofs.lemmas.Int.{ints}
 use Rattle.pv_values.specs.declared.value.Value.{Value}

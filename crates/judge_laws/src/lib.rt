@@ -5,7 +5,7 @@ ghost use Rattle.judge_laws.specs.Judging.{JudgesAsLazy, JudgesAsDrawn, BlocksWi
 ghost use Rattle.judge_laws.specs.Drawing.{RunsAsDrawn, DrawnRunsAsLazy, RemembersPicks};
 ghost use Rattle.judge_laws.specs.Ending.{EndsUnfitAtNegative};
 ghost use Rattle.judge_laws.specs.Entering.{EntersAsDrawn, DrawnEntersAsLazy, EntersAsLazy};
-ghost use Rattle.judge_laws.specs.OneGo.{StepsInOneGo};
+ghost use Rattle.judge_laws.specs.OneGo.{StepsInOneGo, RunsInOneGo};
 ghost use Rattle.judge_laws.specs.Parts.{RunsByParts};
 ghost use Rattle.judge_laws.specs.Statements.{InhalesDirectly, ExhalesDirectly, WasHeld, ReadsNoTrueTable};
 
@@ -63,6 +63,11 @@ pub fn remembers_picks()
 /// blocks of statements.
 pub fn steps_in_one_go()
     ensures { StepsInOneGo }
+{}
+
+/// The drawn run of a unit is the run in one go; and that is the run up to the first inhale, and then the rest.
+pub fn runs_in_one_go()
+    ensures { RunsInOneGo }
 {}
 
 /// A drawn run is its parts, each with what comes next: an expression is its parts and their operations, a formula its conjuncts.
