@@ -5,7 +5,7 @@ use Rattle.pv_values.specs.declared.value.Value.{Value}
 use Rattle.pv_ast.specs.declared.PvType.{PvType}
 use Rattle.pv_ast.specs.declared.PvType.TheVariants.{Int}
 use Rattle.pv_picks.specs.Plain.Core.{Operation}
-use Rattle.pv_picks.specs.Judge.States.{State, Cell, Written, FromSteps, as_element}
+use Rattle.pv_picks.specs.Judge.States.{State, Cell, Written, FromSteps, as_element, as_element_type}
 use Rattle.pv_picks.specs.Lazy.Patterns.{Shown, Took}
 use Rattle.pv_picks.specs.Lazy.Runs.{Memory, LazyEnd, Final, final, Unfit, Outcome, OneNumber, OneTurn, ForRange, at_end, showing, taking, picking, Source, Lazily, testing, lazy, Drawn, from_values, element_or, operation_or, value_read, value_used, no_memory}
 use Rattle.judge_laws.specs.Related.{AreRelated}
@@ -55,7 +55,7 @@ module _ {A E : Type 0} (values : ℕ → ℤ) (turns : ℕ → ℕ) (stop : Laz
       → ((z : ℤ) → Continues (f z) (g z))
       → Continues (element_or Stopped One x ty n i f) (element_or stop Other x ty n i g)
   element_continues (Some z) ty n i f g h m d = h z m d
-  element_continues None ty n i f g h m d = ap (taking ty (values d.taken)) (h (values d.taken) _ _)
+  element_continues None ty n i f g h m d = ap (taking (as_element_type ty) (values d.taken)) (h (values d.taken) _ _)
 
   operation_continues : (x : Option ℤ) (o : Operation) (b c : ℤ) (f : ℤ → Lazily Drawn (Came A)) (g : ℤ → Lazily Drawn E)
       → ((z : ℤ) → Continues (f z) (g z))
