@@ -180,8 +180,8 @@ drawn_runs_as_lazy p unit evidence values turns more picks_there reads_there use
     (lazy_related final final (from_picks (maps_of evidence.picks) evidence.table) (from_values values turns)
     (Backs (maps_of evidence.picks) evidence.table values turns more)
     (tests_back (maps_of evidence.picks) evidence.table values turns more)
-    (λ sh mv e f k x y h m d. shown_backs (maps_of evidence.picks) evidence.table values turns more (sh m) m (mv m) _ _ (e m) (f m)
-    (h (mv m) d)) (λ f g h m d. h m m d))
+    (λ sh mv e f k x y h m d. shown_backs (maps_of evidence.picks) evidence.table values turns more (sh m) m (mv m) _ _ (e m)
+    (f m) (h (mv m) d)) (λ f g h m d. h m m d))
     p (task_of p unit) no_memory (record { taken = 0; turned = 0 })).1 evidence.picks picks_there reads_there uses_there
 
 -- the same up to the first inhale
@@ -191,6 +191,6 @@ drawn_enters_as_lazy p unit evidence values turns more picks_there reads_there u
     (lazy_related final final (from_picks (maps_of evidence.picks) evidence.table) (from_values values turns)
     (Backs (maps_of evidence.picks) evidence.table values turns more)
     (tests_back (maps_of evidence.picks) evidence.table values turns more)
-    (λ sh mv e f k x y h m d. shown_backs (maps_of evidence.picks) evidence.table values turns more (sh m) m (mv m) _ _ (e m) (f m)
-    (h (mv m) d)) (λ f g h m d. h m m d))
+    (λ sh mv e f k x y h m d. shown_backs (maps_of evidence.picks) evidence.table values turns more (sh m) m (mv m) _ _ (e m)
+    (f m) (h (mv m) d)) (λ f g h m d. h m m d))
     (task_of p unit) no_memory (record { taken = 0; turned = 0 })).1 evidence.picks picks_there reads_there uses_there

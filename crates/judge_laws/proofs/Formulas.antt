@@ -52,7 +52,8 @@ module _ {A B : Type 0} (S : Setting A) (T : Setting B) (P : A → B → Type 0)
 
   inhale_repeated_related : (b : Bind) (n : Name) (e : Expression) (x : Range) (f : Next A) (g : Next B) → Nexts f g
       → Nexts (inhale_repeated S b n e x f) (inhale_repeated T b n e x g)
-  inhale_repeated_related b n e x f g h s = r.pick Int (λ n. n) _ _ (λ m. in_mark_related b n e x m _ _ (knows_related b n e x f g h) s)
+  inhale_repeated_related b n e x f g h s =
+      r.pick Int (λ n. n) _ _ (λ m. in_mark_related b n e x m _ _ (knows_related b n e x f g h) s)
 
   mutual
     pub inhale_related : (b : Bind) (F : Formula) (f : Next A) (g : Next B) → Nexts f g → Nexts (inhale S b F f) (inhale T b F g)

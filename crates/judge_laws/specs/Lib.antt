@@ -7,4 +7,5 @@ pub mod OneGo
 pub mod Parts
 pub mod Judging
 pub mod Ending
+pub mod Numbers
 pub mod Entering

@@ -5,6 +5,7 @@ ghost use Rattle.judge_laws.specs.Judging.{JudgesAsLazy, JudgesAsDrawn, BlocksWi
 ghost use Rattle.judge_laws.specs.Drawing.{RunsAsDrawn, DrawnRunsAsLazy, RemembersPicks};
 ghost use Rattle.judge_laws.specs.Ending.{EndsUnfitAtNegative};
 ghost use Rattle.judge_laws.specs.Entering.{EntersAsDrawn, DrawnEntersAsLazy, EntersAsLazy};
+ghost use Rattle.judge_laws.specs.Numbers.{UpWhereFit, TakesValues, KeepsTurnsBelow, RemembersEachOnce};
 ghost use Rattle.judge_laws.specs.OneGo.{StepsInOneGo, RunsInOneGo};
 ghost use Rattle.judge_laws.specs.Parts.{RunsByParts};
 ghost use Rattle.judge_laws.specs.Statements.{InhalesDirectly, ExhalesDirectly, WasHeld, ReadsNoTrueTable};
@@ -93,4 +94,24 @@ pub fn drawn_enters_as_lazy()
 /// Up to the first inhale the judge ends as the lazy run does, or is blocked.
 pub fn enters_as_lazy()
     ensures { EntersAsLazy }
+{}
+
+/// A drawn run that isn't unfit takes no negative number in the place of a reference.
+pub fn up_where_fit()
+    ensures { UpWhereFit }
+{}
+
+/// A drawn run takes the values in their order, one for each type that it tells.
+pub fn takes_values()
+    ensures { TakesValues }
+{}
+
+/// A drawn run that isn't unfit is the same with other turns in place of those from 3 on.
+pub fn keeps_turns_below()
+    ensures { KeepsTurnsBelow }
+{}
+
+/// A drawn run remembers each use of an operation once, and each element of a range's pick that it reads.
+pub fn remembers_each_once()
+    ensures { RemembersEachOnce }
 {}
