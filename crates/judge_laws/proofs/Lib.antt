@@ -15,4 +15,5 @@ mod Together
 mod Picking
 pub mod Numbers
 pub mod Remembering
+pub mod Making
 pub mod Ending

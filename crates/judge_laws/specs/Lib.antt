@@ -9,3 +9,4 @@ pub mod Judging
 pub mod Ending
 pub mod Numbers
 pub mod Entering
+pub mod Making

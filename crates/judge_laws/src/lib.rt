@@ -5,6 +5,7 @@ ghost use Rattle.judge_laws.specs.Judging.{JudgesAsLazy, JudgesAsDrawn, BlocksWi
 ghost use Rattle.judge_laws.specs.Drawing.{RunsAsDrawn, DrawnRunsAsLazy, RemembersPicks};
 ghost use Rattle.judge_laws.specs.Ending.{EndsUnfitAtNegative};
 ghost use Rattle.judge_laws.specs.Entering.{EntersAsDrawn, DrawnEntersAsLazy, EntersAsLazy};
+ghost use Rattle.judge_laws.specs.Making.{TellsUses, MakesEvidence};
 ghost use Rattle.judge_laws.specs.Numbers.{UpWhereFit, TakesValues, KeepsTurnsBelow, RemembersEachOnce};
 ghost use Rattle.judge_laws.specs.OneGo.{StepsInOneGo, RunsInOneGo};
 ghost use Rattle.judge_laws.specs.Parts.{RunsByParts};
@@ -114,4 +115,14 @@ pub fn keeps_turns_below()
 /// A drawn run remembers each use of an operation once, and each element of a range's pick that it reads.
 pub fn remembers_each_once()
     ensures { RemembersEachOnce }
+{}
+
+/// Uses that differ make a table that is told well and has the value of each of them.
+pub fn tells_uses()
+    ensures { TellsUses }
+{}
+
+/// Evidence that is made of a drawn run has it as its lazy run.
+pub fn makes_evidence()
+    ensures { MakesEvidence }
 {}
