@@ -122,7 +122,8 @@ others_entry u v n e l r =
 
 others_all : (u : UsedFor) (us : List UsedFor) → IsOtherUse u us → All (HasOtherUse (entry_for u)) (table_of us)
 others_all u [] h = All-nil _
-others_all u (v ∷ us) h = All-cons (HasOtherUse (entry_for u)) (entry_for v) (table_of us) (others_entry u v h.0) (others_all u us h.1)
+others_all u (v ∷ us) h =
+    All-cons (HasOtherUse (entry_for u)) (entry_for v) (table_of us) (others_entry u v h.0) (others_all u us h.1)
 
 le_other : (a b : ℤ) → int_le a b ≡ false → int_le b a ≡ true
 le_other a b h = search (rules, ints)
