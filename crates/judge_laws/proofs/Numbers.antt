@@ -14,7 +14,7 @@ use Rattle.pv_picks.specs.Lazy.Patterns.{Took}
 use Rattle.pv_picks.specs.Lazy.Runs.{Memory, Final, final, Lazily, lazy, Unfit, Outcome, at_end, showing, taking, picking, testing, Drawn, Source, from_values, element_or, operation_or, value_read, value_used, OneNumber, OneTurn, ForRange, taken_in, ranged, no_memory}
 use Rattle.judge_laws.specs.Related.{AreRelated, IsOfReferences}
 use Rattle.judge_laws.specs.Drawing.{AreAt}
-use Rattle.judge_laws.specs.Numbers.{AreUpFrom, UpWhereFit, TakesValues, KeepsTurnsBelow}
+use Rattle.judge_laws.specs.Numbers.{IsInOrder, AreUpFrom, UpWhereFit, TakesValues, KeepsTurnsBelow}
 use Rattle.judge_laws.proofs.Taking.{throughout}
 use Rattle.judge_laws.proofs.Sources.{lazy_related}
 use Rattle.judge_laws.proofs.Statements.{judge_related, enter_task_related}
@@ -156,13 +156,19 @@ module _ (values : ℕ → ℤ) (turns : ℕ → ℕ) where
     knowing = λ k x y h. h;
   })
 
+  in_order : (o : Outcome Final) → At 0 o → IsInOrder values o
+  in_order o h = record { first = h.0; typed = h.1 }
+
+  lazies_take : AreRelated (lazy final V) (lazy final V) Takes
+  lazies_take = lazy_related final final V V Takes tests_take (λ sh mv e f k x y h m d. h (mv m) d) (λ f g h m d. h m m d)
+
 pub takes_values : TakesValues
-takes_values p unit values turns =
-    let t = judge_related _ _ (Takes values turns)
-    (lazy_related final final (from_values values turns) (from_values values turns) (Takes values turns) (tests_take values turns)
-    (λ sh mv e f k x y h m d. h (mv m) d) (λ f g h m d. h m m d)) p (task_of p unit) no_memory
-    (record { taken = 0; turned = 0 }) in
-    record { first = t.0; typed = t.1 }
+takes_values p unit values turns = (
+  in_order values turns _ (judge_related _ _ (Takes values turns) (lazies_take values turns) p (task_of p unit) no_memory
+      (record { taken = 0; turned = 0 })),
+  in_order values turns _ (enter_task_related _ _ (Takes values turns) (lazies_take values turns) (task_of p unit) no_memory
+      (record { taken = 0; turned = 0 })),
+)
 
 -- Turns from 3 on
 

@@ -25,7 +25,8 @@ pub record IsInOrder (values : ℕ → ℤ) (o : Outcome Final) : Type 0 where
   pub typed : length o.values ≡ length o.types
 
 abbrev pub TakesValues : Type 0
-TakesValues = (p : Program) (unit : PvUnit) (values : ℕ → ℤ) (turns : ℕ → ℕ) → IsInOrder values (drawn_run p unit values turns)
+TakesValues = (p : Program) (unit : PvUnit) (values : ℕ → ℤ) (turns : ℕ → ℕ)
+    → IsInOrder values (drawn_run p unit values turns) × IsInOrder values (drawn_entry p unit values turns)
 
 -- a run that isn't unfit is the same with other turns in place of those from 3 on
 abbrev pub KeepsTurnsBelow : Type 0
