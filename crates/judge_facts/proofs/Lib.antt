@@ -21,4 +21,4 @@ mod Reading
 mod ReadingRuns
 mod ReadingNames
 mod Numbering
-mod Without
+pub mod Without

@@ -1,5 +1,5 @@
 -- A step map that lists names alone is carried between names.
-use Rattle.std.proofs.Common.{◌≡◌, ℕ, zero, suc, ℤ, pos, Bool, true, false, if◌then◌else◌, List, [], ◌∷◌, refl, ap, sym, subst, ◌∙◌, inl, inr, rules, arith}
+use Rattle.std.proofs.Common.{◌≡◌, ℕ, zero, suc, ℤ, pos, Bool, true, false, if◌then◌else◌, List, [], ◌∷◌, append-nil, refl, ap, sym, subst, ◌∙◌, inl, inr, rules, arith}
 use Rattle.std.specs.Prelude.{int_le, ◌≤ℤ◌}
 use Rattle.std.proofs.lemmas.Int.{ints, by_lt_z}
 use Rattle.pv_picks.specs.declared.evidence.Pick.{Pick}
@@ -53,7 +53,7 @@ judges_on_listed_names p unit evidence shaped lists =
 
 pub judges_as_it_drew : JudgesAsItDrew
 judges_as_it_drew p unit evidence values turns shaped kinds_there reads_there uses_there lists =
-    let same = drawn_runs_as_lazy p unit evidence values turns kinds_there reads_there uses_there in
+    let same = drawn_runs_as_lazy p unit evidence values turns [] (kinds_there ∙ sym (append-nil _)) reads_there uses_there in
     judges_on_listed_names p unit evidence shaped
     (subst (λ (o : Outcome Final). ListsNames evidence.picks o.end) (sym same) lists)
     ∙ ap (λ (o : Outcome Final). as_end o.end.end) same

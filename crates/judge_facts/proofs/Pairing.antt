@@ -8,7 +8,7 @@ use Rattle.pv_picks.specs.declared.evidence.Pick.{Pick}
 use Rattle.pv_picks.specs.declared.evidence.Pick.TheVariants.{Number, Turn, Steps}
 use Rattle.pv_picks.specs.declared.evidence.Entry.{Entry}
 use Rattle.pv_picks.specs.Plain.Core.{Operation, Program}
-use Rattle.pv_picks.specs.Judge.States.{Cell, Written, FromSteps, as_element}
+use Rattle.pv_picks.specs.Judge.States.{Cell, Written, FromSteps, as_element, as_element_type}
 use Rattle.pv_picks.specs.Judge.Settings.{Setting}
 use Rattle.pv_picks.specs.Judge.UnitRuns.{Task, judge_task}
 use Rattle.pv_picks.specs.Judge.Runs.{Maps, value_of_operation}
@@ -87,8 +87,8 @@ module _ (maps : Maps) (table : List Entry) where
       → Same (element_or final S o ty n i f) (element_or final S o ty n i g)
   element_same (Some z) ty n i f g h m ps = h z m ps
   element_same None ty n i f g h m ps =
-      ap (taking ty (maps n i)) (h (maps n i) (record m { reads = record { number = n; index = i; value = maps n i } ∷ m.reads })
-      ps)
+      ap (taking (as_element_type ty) (maps n i))
+      (h (maps n i) (record m { reads = record { number = n; index = i; value = maps n i } ∷ m.reads }) ps)
 
   operation_same : (x : Option ℤ) (o : Operation) (b c : ℤ) (f g : ℤ → Lazy) → ((z : ℤ) → Same (f z) (g z))
       → Same (operation_or final S x o b c f) (operation_or final S x o b c g)

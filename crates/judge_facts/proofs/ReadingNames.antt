@@ -1,5 +1,5 @@
 -- What a lazy run reads of its picks for ranges it reads at names, so evidence that lists what was read lists names alone.
-use Rattle.std.proofs.Common.{◌≡◌, ℤ, Option, Some, None, List, [], ◌∷◌, refl, ap, sym, subst, ◌∙◌, inl, inr}
+use Rattle.std.proofs.Common.{◌≡◌, ℤ, Option, Some, None, List, [], ◌∷◌, append-nil, refl, ap, sym, subst, ◌∙◌, inl, inr}
 use Rattle.std.specs.List.{AllByRecursion}
 use Rattle.pv_base.specs.declared.Name.{Name}
 use Rattle.pv_picks.specs.declared.evidence.Entry.{Entry}
@@ -110,7 +110,7 @@ module _ (Q R : Name → Expression → Type 0) (more : (n : Name) (e : Expressi
 
 pub judges_on_reads : JudgesOnReads
 judges_on_reads p unit evidence values turns shaped kinds_there reads_there uses_there lists =
-    let same = drawn_runs_as_lazy p unit evidence values turns kinds_there reads_there uses_there in
+    let same = drawn_runs_as_lazy p unit evidence values turns [] (kinds_there ∙ sym (append-nil _)) reads_there uses_there in
     let f : Final = (lazy_run p unit evidence).end in
     let listed = subst (λ (o : Outcome Final). ListsReads evidence.picks o.end) (sym same) lists in
     lockstep.by_end (judge p unit evidence ≡ as_end f.end) f.end

@@ -1,16 +1,14 @@
 -- Where no fact on elements is known, the judge ends as the drawn run does.
-use Rattle.std.proofs.Common.{◌≡◌, ◌⊎◌, inl, inr, ℕ, ℤ, List, [], ◌∷◌, refl, sym, ap, subst, ◌∙◌}
+use Rattle.std.proofs.Common.{◌≡◌, inl, inr, List, [], sym, subst, ◌∙◌}
 use Rattle.pv_picks.specs.declared.evidence.Entry.{Entry}
 use Rattle.pv_picks.specs.declared.evidence.Evidence.{Evidence}
 use Rattle.pv_picks.specs.declared.unit.PvUnit.{PvUnit}
 use Rattle.pv_picks.specs.Plain.Core.{Program}
-use Rattle.pv_picks.specs.Judge.Settings.{Known}
 use Rattle.pv_picks.specs.Judge.UnitRuns.{task_of}
-use Rattle.pv_picks.specs.Judge.Runs.{End, Maps, maps_of, judge}
-use Rattle.pv_picks.specs.Lazy.Runs.{Outcome, Final, lazy_run, drawn_run, no_memory}
+use Rattle.pv_picks.specs.Judge.Runs.{Maps, maps_of}
+use Rattle.pv_picks.specs.Lazy.Runs.{Final, lazy_run, no_memory}
 use Rattle.judge_laws.specs.Judging.{as_end}
-use Rattle.judge_laws.specs.Entering.{judge_entry, lazy_entry, drawn_entry}
-use Rattle.judge_laws.proofs.Backing.{drawn_runs_as_lazy, drawn_enters_as_lazy}
+use Rattle.judge_laws.specs.Entering.{judge_entry, lazy_entry}
 use Rattle.judge_laws.proofs.Judging.{enters_as_lazy}
 use Rattle.judge_laws.proofs.Statements.{enter_task_related}
 use Rattle.judge_facts.specs.Finite.{AllSpread, IsOneOf}
@@ -32,16 +30,9 @@ enters_where_facts_spread p unit evidence spread =
     (λ n i e. absurd (cc e), tt) l).2 spread)
 
 pub judges_without_facts : JudgesWithoutFacts
-judges_without_facts p unit evidence values turns picks_there reads_there uses_there none =
-    let same : lazy_run p unit evidence ≡ drawn_run p unit values turns =
-    drawn_runs_as_lazy p unit evidence values turns picks_there reads_there uses_there in
-    judges_where_facts_spread p unit evidence (none_spread (maps_of evidence.picks) evidence.table (lazy_run p unit evidence).end
-    (ap (λ o. o.end.known) same ∙ none)) ∙ ap (λ o. as_end o.end.end) same
+judges_without_facts p unit evidence none = judges_where_facts_spread p unit evidence
+    (none_spread (maps_of evidence.picks) evidence.table (lazy_run p unit evidence).end none)
 
 pub enters_without_facts : EntersWithoutFacts
-enters_without_facts p unit evidence values turns picks_there reads_there uses_there none =
-    let same : lazy_entry p unit evidence ≡ drawn_entry p unit values turns =
-    drawn_enters_as_lazy p unit evidence values turns picks_there reads_there uses_there in
-    enters_where_facts_spread p unit evidence
-    (none_spread (maps_of evidence.picks) evidence.table (lazy_entry p unit evidence).end (ap (λ o. o.end.known) same ∙ none))
-    ∙ ap (λ o. as_end o.end.end) same
+enters_without_facts p unit evidence none = enters_where_facts_spread p unit evidence
+    (none_spread (maps_of evidence.picks) evidence.table (lazy_entry p unit evidence).end none)

@@ -42,7 +42,7 @@ pub fn judges_on_reads()
     ensures { JudgesOnReads }
 {}
 
-/// On evidence that is made of a drawn run which comes to know no fact on elements, the judge ends as the drawn run does.
+/// Where the lazy run comes to know no fact on elements, the judge ends as it does.
 pub fn judges_without_facts()
     ensures { JudgesWithoutFacts }
 {}

@@ -8,7 +8,7 @@ use Rattle.pv_picks.specs.declared.evidence.Pick.{Pick}
 use Rattle.pv_picks.specs.declared.evidence.Pick.TheVariants.{Number, Turn, Steps}
 use Rattle.pv_picks.specs.declared.evidence.Entry.{Entry}
 use Rattle.pv_picks.specs.Plain.Core.{Operation}
-use Rattle.pv_picks.specs.Judge.States.{Cell, Written, FromSteps, as_element}
+use Rattle.pv_picks.specs.Judge.States.{Cell, Written, FromSteps, as_element, as_element_type}
 use Rattle.pv_picks.specs.Judge.UnitRuns.{task_of}
 use Rattle.pv_picks.specs.Judge.Runs.{Maps, maps_of, value_of_operation}
 use Rattle.pv_picks.specs.Lazy.Patterns.{Shown, Took}
@@ -29,7 +29,7 @@ fits_last : (table : List Entry) (us : List UsedFor) (u : UsedFor) → FitsUses 
 fits_last table [] u h = h.0
 fits_last table (x ∷ xs) u h = fits_last table xs u h.1
 
-module _ (maps : Maps) (table : List Entry) (values : ℕ → ℤ) (turns : ℕ → ℕ) where
+module _ (maps : Maps) (table : List Entry) (values : ℕ → ℤ) (turns : ℕ → ℕ) (more : List Taken) where
   abbrev One : Source (List Pick) Final
   One = from_picks maps table
 
@@ -41,7 +41,7 @@ module _ (maps : Maps) (table : List Entry) (values : ℕ → ℤ) (turns : ℕ 
   Kept m o = (FitReads maps o.end.reads → FitReads maps m.reads) × (FitsUses table o.end.uses → FitsUses table m.uses)
 
   abbrev Comes : (List Pick → Outcome Final) → Outcome Final → Type 0
-  Comes x o = (ps : List Pick) → kinds ps ≡ o.picks → FitReads maps o.end.reads → FitsUses table o.end.uses → x ps ≡ o
+  Comes x o = (ps : List Pick) → kinds ps ≡ o.picks ++ more → FitReads maps o.end.reads → FitsUses table o.end.uses → x ps ≡ o
 
   abbrev Backs : Lazily (List Pick) Final → Lazily Drawn Final → Type 0
   Backs x y = (m : Memory) (d : Drawn) → Kept m (y m d) × Comes (x m) (y m d)
@@ -123,8 +123,9 @@ module _ (maps : Maps) (table : List Entry) (values : ℕ → ℤ) (turns : ℕ 
       let read = λ (w : ℤ). record m { reads = record { number = n; index = i; value = w } ∷ m.reads } in
       let q = h v (read v) (next_value d) in (
         (λ r. (q.0.0 r).1, q.0.1),
-        λ ps k r u. subst (λ (w : ℤ). taking ty w (f w (read w) ps) ≡ taking ty v (g v (read v) (next_value d))) (sym (q.0.0 r).0)
-            (ap (taking ty v) (q.1 ps k r u)),
+        λ ps k r u. subst (λ (w : ℤ). taking (as_element_type ty) w (f w (read w) ps)
+            ≡ taking (as_element_type ty) v (g v (read v) (next_value d))) (sym (q.0.0 r).0)
+            (ap (taking (as_element_type ty) v) (q.1 ps k r u)),
       )
 
   operation_backs : (x : Option ℤ) (o : Operation) (b c : ℤ) (f : ℤ → Lazily (List Pick) Final) (g : ℤ → Lazily Drawn Final)
@@ -174,22 +175,22 @@ module _ (maps : Maps) (table : List Entry) (values : ℕ → ℤ) (turns : ℕ 
   })
 
 pub drawn_runs_as_lazy : DrawnRunsAsLazy
-drawn_runs_as_lazy p unit evidence values turns picks_there reads_there uses_there =
-    (judge_related _ _ (Backs (maps_of evidence.picks) evidence.table values turns)
+drawn_runs_as_lazy p unit evidence values turns more picks_there reads_there uses_there =
+    (judge_related _ _ (Backs (maps_of evidence.picks) evidence.table values turns more)
     (lazy_related final final (from_picks (maps_of evidence.picks) evidence.table) (from_values values turns)
-    (Backs (maps_of evidence.picks) evidence.table values turns)
-    (tests_back (maps_of evidence.picks) evidence.table values turns)
-    (λ sh mv e f k x y h m d. shown_backs (maps_of evidence.picks) evidence.table values turns (sh m) m (mv m) _ _ (e m) (f m)
-    (h (mv m) d)) (λ f g h m d. h m m d))
+    (Backs (maps_of evidence.picks) evidence.table values turns more)
+    (tests_back (maps_of evidence.picks) evidence.table values turns more)
+    (λ sh mv e f k x y h m d. shown_backs (maps_of evidence.picks) evidence.table values turns more (sh m) m (mv m) _ _ (e m)
+    (f m) (h (mv m) d)) (λ f g h m d. h m m d))
     p (task_of p unit) no_memory (record { taken = 0; turned = 0 })).1 evidence.picks picks_there reads_there uses_there
 
 -- the same up to the first inhale
 pub drawn_enters_as_lazy : DrawnEntersAsLazy
-drawn_enters_as_lazy p unit evidence values turns picks_there reads_there uses_there =
-    (enter_task_related _ _ (Backs (maps_of evidence.picks) evidence.table values turns)
+drawn_enters_as_lazy p unit evidence values turns more picks_there reads_there uses_there =
+    (enter_task_related _ _ (Backs (maps_of evidence.picks) evidence.table values turns more)
     (lazy_related final final (from_picks (maps_of evidence.picks) evidence.table) (from_values values turns)
-    (Backs (maps_of evidence.picks) evidence.table values turns)
-    (tests_back (maps_of evidence.picks) evidence.table values turns)
-    (λ sh mv e f k x y h m d. shown_backs (maps_of evidence.picks) evidence.table values turns (sh m) m (mv m) _ _ (e m) (f m)
-    (h (mv m) d)) (λ f g h m d. h m m d))
+    (Backs (maps_of evidence.picks) evidence.table values turns more)
+    (tests_back (maps_of evidence.picks) evidence.table values turns more)
+    (λ sh mv e f k x y h m d. shown_backs (maps_of evidence.picks) evidence.table values turns more (sh m) m (mv m) _ _ (e m)
+    (f m) (h (mv m) d)) (λ f g h m d. h m m d))
     (task_of p unit) no_memory (record { taken = 0; turned = 0 })).1 evidence.picks picks_there reads_there uses_there

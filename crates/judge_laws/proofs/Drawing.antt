@@ -8,7 +8,7 @@ use Rattle.pv_picks.specs.declared.evidence.Pick.{Pick}
 use Rattle.pv_picks.specs.declared.evidence.Pick.TheVariants.{Number, Turn, Steps}
 use Rattle.pv_picks.specs.declared.evidence.Entry.{Entry}
 use Rattle.pv_picks.specs.Plain.Core.{Operation}
-use Rattle.pv_picks.specs.Judge.States.{Cell, Written, FromSteps, as_element}
+use Rattle.pv_picks.specs.Judge.States.{Cell, Written, FromSteps, as_element, as_element_type}
 use Rattle.pv_picks.specs.Judge.UnitRuns.{task_of}
 use Rattle.pv_picks.specs.Judge.Runs.{Maps, maps_of, value_of_operation}
 use Rattle.pv_picks.specs.Lazy.Patterns.{Took}
@@ -103,7 +103,7 @@ module _ (maps : Maps) (table : List Entry) (values : ℕ → ℤ) (turns : ℕ 
       → ((z : ℤ) → Draws (f z) (g z)) → Draws (element_or final One o ty n i f) (element_or final Other o ty n i g)
   element_draws (Some z) ty n i f g h m ps d u a t = h z m ps d u a t
   element_draws None ty n i f g h m ps d u a t =
-      drawn_next ty (maps n i) (values d.taken) _
+      drawn_next (as_element_type ty) (maps n i) (values d.taken) _
       (λ w. g w (record m { reads = record { number = n; index = i; value = w } ∷ m.reads }) (next_value d)) a.0
       (h (maps n i) _ ps (next_value d) u a.1 t)
 

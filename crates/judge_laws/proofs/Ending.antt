@@ -1,5 +1,5 @@
 -- A drawn run ends unfit just behind a negative number in the place of a reference.
-use Rattle.std.proofs.Common.{◌≡◌, ◌⊎◌, inl, inr, ◌<◌, ℕ, suc, ℤ, pos, negsuc, Bool, true, false, if◌then◌else◌, Option, Some, None, List, [], ◌∷◌, refl, sym, subst, arith, rules}
+use Rattle.std.proofs.Common.{◌≡◌, inl, inr, ◌<◌, ℕ, suc, ℤ, pos, negsuc, Bool, true, false, if◌then◌else◌, Option, Some, None, ◌∷◌, refl, sym, subst, rules}
 use Rattle.std.specs.Prelude.{nat_lt, ◌<ℤ◌}
 use Rattle.std.proofs.lemmas.Int.{ints}
 use Rattle.pv_values.specs.declared.value.Value.{Value}
@@ -64,7 +64,7 @@ module _ (values : ℕ → ℤ) (turns : ℕ → ℕ) (below : (k : ℕ) → tur
     finished = λ m d u. cc u;
     blocked = λ m d u. cc u;
     failed = λ check span m d u. cc u;
-    pick = λ ty f g h m d u. inl (h _ (taken_in (OneNumber (values d.taken)) m) _ u);
+    pick = λ ty n f g h m d u. inl (h _ (taken_in (OneNumber (values d.taken)) m) _ u);
     met = λ t is f g h s m d u. met_tells t is f h s d.taken d.turned (values d.taken) refl
         (taken_in (OneNumber (values d.taken)) m) u;
     turn = λ f g h m d u. turn_tells (nat_lt (turns d.turned) 3) d.taken _ (taken_in (OneTurn (turns d.turned)) m)

@@ -4,6 +4,7 @@ use Rattle.std.specs.Prelude.{◌+ℤ◌}
 use Rattle.pv_base.specs.declared.Name.{Name}
 use Rattle.pv_base.specs.declared.Span.{Span}
 use Rattle.pv_ast.specs.declared.Token.TheVariants as token
+use Rattle.pv_ast.specs.declared.PvType.TheVariants.{Int}
 use Rattle.pv_values.specs.declared.value.Value.{Value}
 use Rattle.pv_picks.specs.Plain.Core.{Expression, Formula, Fact, FieldPermission, ElementPermission, Holds, Instance, Star, When, Each, Items, NoItems, Join, Item, Elements, Repeated, Committed, Guarded, Fixed}
 use Rattle.pv_picks.specs.Formulas.Values.{number_in, truth_in}
@@ -51,7 +52,8 @@ module _ {A B : Type 0} (S : Setting A) (T : Setting B) (P : A → B → Type 0)
 
   inhale_repeated_related : (b : Bind) (n : Name) (e : Expression) (x : Range) (f : Next A) (g : Next B) → Nexts f g
       → Nexts (inhale_repeated S b n e x f) (inhale_repeated T b n e x g)
-  inhale_repeated_related b n e x f g h s = r.pick _ _ _ (λ m. in_mark_related b n e x m _ _ (knows_related b n e x f g h) s)
+  inhale_repeated_related b n e x f g h s =
+      r.pick Int (λ n. n) _ _ (λ m. in_mark_related b n e x m _ _ (knows_related b n e x f g h) s)
 
   mutual
     pub inhale_related : (b : Bind) (F : Formula) (f : Next A) (g : Next B) → Nexts f g → Nexts (inhale S b F f) (inhale T b F g)
@@ -121,7 +123,7 @@ module _ {A B : Type 0} (S : Setting A) (T : Setting B) (P : A → B → Type 0)
 
   exhale_repeated_related : (q : Giving) (n : Name) (e : Expression) (p : Span) (x : Range) (f : Next A) (g : Next B) → Nexts f g
       → Nexts (exhale_repeated S q n e p x f) (exhale_repeated T q n e p x g)
-  exhale_repeated_related q n e p x f g h s = r.pick _ _ _ (λ m. out_mark_related q n e p x m f g h s)
+  exhale_repeated_related q n e p x f g h s = r.pick Int (λ n. n) _ _ (λ m. out_mark_related q n e p x m f g h s)
 
   mutual
     pub exhale_related : (q : Giving) (F : Formula) (f : Next A) (g : Next B) → Nexts f g

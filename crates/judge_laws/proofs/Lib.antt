@@ -13,4 +13,7 @@ pub mod Lookups
 pub mod Judging
 mod Together
 mod Picking
+pub mod Numbers
+pub mod Remembering
+pub mod Making
 pub mod Ending

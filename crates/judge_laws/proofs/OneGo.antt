@@ -5,16 +5,19 @@ use Rattle.pv_values.specs.declared.value.Value.{Value}
 use Rattle.pv_ast.specs.declared.PvType.{PvType}
 use Rattle.pv_ast.specs.declared.PvType.TheVariants.{Int}
 use Rattle.pv_picks.specs.Plain.Core.{Operation}
-use Rattle.pv_picks.specs.Judge.States.{State, Cell, Written, FromSteps, as_element}
+use Rattle.pv_picks.specs.Judge.States.{State, Cell, Written, FromSteps, as_element, as_element_type}
 use Rattle.pv_picks.specs.Lazy.Patterns.{Shown, Took}
-use Rattle.pv_picks.specs.Lazy.Runs.{Memory, LazyEnd, Final, final, Unfit, Outcome, OneNumber, OneTurn, ForRange, at_end, showing, taking, picking, Source, Lazily, testing, lazy, Drawn, from_values, element_or, operation_or, value_read, value_used}
+use Rattle.pv_picks.specs.Lazy.Runs.{Memory, LazyEnd, Final, final, Unfit, Outcome, OneNumber, OneTurn, ForRange, at_end, showing, taking, picking, Source, Lazily, testing, lazy, Drawn, from_values, element_or, operation_or, value_read, value_used, no_memory}
 use Rattle.judge_laws.specs.Related.{AreRelated}
-use Rattle.judge_laws.specs.OneGo.{EvaluatesInOneGo, InhalesInOneGo, ExhalesInOneGo, ValuesInOneGo, JudgesInOneGo, StepsInOneGo}
+use Rattle.pv_picks.specs.Judge.States.{empty_state}
+use Rattle.pv_picks.specs.Judge.Judging.{finish}
+use Rattle.pv_picks.specs.Judge.UnitRuns.{task_of, go_on}
+use Rattle.judge_laws.specs.OneGo.{EvaluatesInOneGo, InhalesInOneGo, ExhalesInOneGo, ValuesInOneGo, JudgesInOneGo, StepsInOneGo, UnitsInOneGo, EntersInOneGo, GoesOnInOneGo, RunsInOneGo}
 use Rattle.pv_picks.specs.Lazy.Parts.{then_run, after, one_go, gone, Ran, Stopped, Came}
 use Rattle.judge_laws.proofs.Sources.{lazy_related}
 use Rattle.pv_picks.proofs.Readers.{evaluate_related}
 use Rattle.judge_laws.proofs.Formulas.{inhale_related, exhale_related}
-use Rattle.judge_laws.proofs.Statements.{access_related, judge_block_related}
+use Rattle.judge_laws.proofs.Statements.{access_related, judge_block_related, judge_related, enter_related}
 use Rattle.judge_laws.proofs.Taking.{throughout, formula_reader_related}
 
 pub append_append : {X : Type 0} (xs ys zs : List X) → (xs ++ ys) ++ zs ≡ xs ++ (ys ++ zs)
@@ -52,7 +55,7 @@ module _ {A E : Type 0} (values : ℕ → ℤ) (turns : ℕ → ℕ) (stop : Laz
       → ((z : ℤ) → Continues (f z) (g z))
       → Continues (element_or Stopped One x ty n i f) (element_or stop Other x ty n i g)
   element_continues (Some z) ty n i f g h m d = h z m d
-  element_continues None ty n i f g h m d = ap (taking ty (values d.taken)) (h (values d.taken) _ _)
+  element_continues None ty n i f g h m d = ap (taking (as_element_type ty) (values d.taken)) (h (values d.taken) _ _)
 
   operation_continues : (x : Option ℤ) (o : Operation) (b c : ℤ) (f : ℤ → Lazily Drawn (Came A)) (g : ℤ → Lazily Drawn E)
       → ((z : ℤ) → Continues (f z) (g z))
@@ -132,3 +135,25 @@ steps_in_one_go = (
   exhales_in_one_go Final final,
   judges_in_one_go Final final,
 )
+
+-- Units
+
+units_in_one_go : UnitsInOneGo
+units_in_one_go p unit values turns next =
+    judge_related _ _ (Continues values turns final next) (continues values turns final next) p (task_of p unit) no_memory
+    (record { taken = 0; turned = 0 })
+
+enters_in_one_go : EntersInOneGo
+enters_in_one_go p unit values turns =
+    enter_related _ _ (Continues values turns final (λ u. finish (lazy final (from_values values turns))))
+    (continues values turns final (λ u. finish (lazy final (from_values values turns)))) (task_of p unit) (gone tt)
+    (finish (lazy final (from_values values turns))) (λ t n c. refl) empty_state no_memory (record { taken = 0; turned = 0 })
+
+goes_on_in_one_go : GoesOnInOneGo
+goes_on_in_one_go p unit values turns =
+    enter_related _ _ (Continues values turns Stopped (λ u. go_on (one_go values turns) p (task_of p unit)))
+    (continues values turns Stopped (λ u. go_on (one_go values turns) p (task_of p unit))) (task_of p unit) (gone tt)
+    (go_on (one_go values turns) p (task_of p unit)) (λ t n c. refl) empty_state no_memory (record { taken = 0; turned = 0 })
+
+pub runs_in_one_go : RunsInOneGo
+runs_in_one_go = (units_in_one_go, enters_in_one_go, goes_on_in_one_go)

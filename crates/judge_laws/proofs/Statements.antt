@@ -261,7 +261,8 @@ module _ {A B : Type 0} (S : Setting A) (T : Setting B) (P : A → B → Type 0)
 
   pick_position_related : (l u : ℤ) (f : ℤ → Next A) (g : ℤ → Next B) → ((i : ℤ) → Nexts (f i) (g i))
       → Nexts (pick_position S l u f) (pick_position T l u g)
-  pick_position_related l u f g h s = r.pick _ _ _ (λ i. taking.if_within_related S T P r l u i _ _ _ _ r.blocked (h i s))
+  pick_position_related l u f g h s =
+      r.pick type.Int (λ n. n) _ _ (λ i. taking.if_within_related S T P r l u i _ _ _ _ r.blocked (h i s))
 
   at_some_related : (n : Name) (l u : ℤ) (f : Next A) (g : Next B) → Nexts f g → Nexts (at_some S n l u f) (at_some T n l u g)
   at_some_related n l u f g h = pick_position_related l u _ _ (λ i s. h _)

@@ -30,7 +30,7 @@ module _ {A B : Type 0} (S : Setting A) (T : Setting B) (P : A → B → Type 0)
     finished = r.finished;
     blocked = r.blocked;
     failed = r.failed;
-    pick = r.pick;
+    pick = λ t n. r.pick t;
     met = λ t is f g h s. r.pick t _ _ (λ z. met_throughout t z f g h s);
     turn = r.turn;
     steps = r.steps;
@@ -50,8 +50,8 @@ module _ {A B : Type 0} (S : Setting A) (T : Setting B) (P : A → B → Type 0)
 
   pub pick_value_related : (t : PvType) (f : Value → Next A) (g : Value → Next B) → ((v : Value) → Nexts (f v) (g v))
       → Nexts (pick_value S t f) (pick_value T t g)
-  pick_value_related type.Int f g h s = r.pick _ _ _ (λ z. h _ s)
-  pick_value_related type.Truth f g h s = r.pick _ _ _ (λ z. h _ s)
+  pick_value_related type.Int f g h s = r.pick type.Int (λ n. n) _ _ (λ z. h _ s)
+  pick_value_related type.Truth f g h s = r.pick type.Truth (λ n. n) _ _ (λ z. h _ s)
   pick_value_related (type.Object c) f g h s = r.met (type.Object c) tt f g h s
   pick_value_related type.IntArray f g h s = r.met type.IntArray tt f g h s
   pick_value_related type.TruthArray f g h s = r.met type.TruthArray tt f g h s
@@ -68,7 +68,7 @@ module _ {A B : Type 0} (S : Setting A) (T : Setting B) (P : A → B → Type 0)
       → Nexts (known_or_picked S o t a f) (known_or_picked T o t a g)
   known_or_picked_related (Some n) t a f g h s = h n s
   known_or_picked_related None t a f g h s =
-      r.pick _ _ _ (λ z. r.comparing _ _ _ _ (if_related P (int_le (pos 0) z) _ _ _ _ (h z _) r.blocked))
+      r.pick type.Int (λ n. n) _ _ (λ z. r.comparing _ _ _ _ (if_related P (int_le (pos 0) z) _ _ _ _ (h z _) r.blocked))
 
   pub look_at_length_related : (t : PvType) (a : ℕ) (f : ℤ → Next A) (g : ℤ → Next B) → ((z : ℤ) → Nexts (f z) (g z))
       → Nexts (look_at_length S t a f) (look_at_length T t a g)

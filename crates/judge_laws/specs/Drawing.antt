@@ -1,5 +1,5 @@
 -- The lazy run of evidence is the drawn run on the values and turns that it takes.
-use Rattle.std.specs.Prelude.{◌≡◌, ℕ, suc, ℤ, List, [], ◌∷◌}
+use Rattle.std.specs.Prelude.{◌≡◌, ℕ, suc, ℤ, List, [], ◌∷◌, ◌++◌}
 use Rattle.pv_picks.specs.declared.evidence.Pick.{Pick}
 use Rattle.pv_picks.specs.declared.evidence.Pick.TheVariants.{Number, Turn, Steps}
 use Rattle.pv_picks.specs.declared.evidence.Entry.{Entry}
@@ -41,10 +41,11 @@ abbrev pub FitsUses : List Entry → List UsedFor → Type 0
 FitsUses table [] = Unit {0}
 FitsUses table (u ∷ us) = (value_of_operation table u.used.0 u.used.1 u.used.2 ≡ u.value) × FitsUses table us
 
--- evidence with the picks that a drawn run takes, whose maps and table fit what it remembers at the end, has that run
+-- evidence with the picks that a drawn run takes, and maybe more behind them, whose maps and table fit what it remembers at the
+-- end, has that run
 abbrev pub DrawnRunsAsLazy : Type 0
 DrawnRunsAsLazy = (p : Program) (unit : PvUnit) (evidence : Evidence) (values : ℕ → ℤ) (turns : ℕ → ℕ)
-    → kinds evidence.picks ≡ (drawn_run p unit values turns).picks
+    (more : List Taken) → kinds evidence.picks ≡ (drawn_run p unit values turns).picks ++ more
     → FitReads (maps_of evidence.picks) (drawn_run p unit values turns).end.reads
     → FitsUses evidence.table (drawn_run p unit values turns).end.uses
     → lazy_run p unit evidence ≡ drawn_run p unit values turns

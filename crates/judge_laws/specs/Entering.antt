@@ -1,11 +1,11 @@
 -- The run of a unit up to its first inhale: its lazy run, its drawn run, and what the judge comes to there.
-use Rattle.std.specs.Prelude.{◌≡◌, ◌≢◌, ◌⊎◌, ℕ, ℤ}
+use Rattle.std.specs.Prelude.{◌≡◌, ◌≢◌, ◌⊎◌, ℕ, ℤ, List, ◌++◌}
 use Rattle.pv_picks.specs.declared.evidence.Evidence.{Evidence}
 use Rattle.pv_picks.specs.declared.unit.PvUnit.{PvUnit}
 use Rattle.pv_picks.specs.Plain.Core.{Program}
 use Rattle.pv_picks.specs.Judge.UnitRuns.{task_of, enter_task}
 use Rattle.pv_picks.specs.Judge.Runs.{End, Blocked, maps_of, judging}
-use Rattle.pv_picks.specs.Lazy.Runs.{Unfit, Outcome, Final, final, lazy, from_picks, from_values, no_memory}
+use Rattle.pv_picks.specs.Lazy.Runs.{Taken, Unfit, Outcome, Final, final, lazy, from_picks, from_values, no_memory}
 use Rattle.judge_laws.specs.Judging.{as_end}
 use Rattle.judge_laws.specs.Drawing.{AreAt, turns_of, kinds, FitReads, FitsUses}
 
@@ -26,10 +26,10 @@ EntersAsDrawn = (p : Program) (unit : PvUnit) (evidence : Evidence) (values : �
     → (lazy_entry p unit evidence).end.end ≢ Unfit → AreAt values 0 (lazy_entry p unit evidence).values
     → AreAt turns 0 (turns_of evidence.picks) → drawn_entry p unit values turns ≡ lazy_entry p unit evidence
 
--- evidence with the picks of the drawn run, whose maps and table fit what it remembers, has that run
+-- evidence with the picks of the drawn run, and maybe more behind them, whose maps and table fit what it remembers, has that run
 abbrev pub DrawnEntersAsLazy : Type 0
 DrawnEntersAsLazy = (p : Program) (unit : PvUnit) (evidence : Evidence) (values : ℕ → ℤ) (turns : ℕ → ℕ)
-    → kinds evidence.picks ≡ (drawn_entry p unit values turns).picks
+    (more : List Taken) → kinds evidence.picks ≡ (drawn_entry p unit values turns).picks ++ more
     → FitReads (maps_of evidence.picks) (drawn_entry p unit values turns).end.reads
     → FitsUses evidence.table (drawn_entry p unit values turns).end.uses
     → lazy_entry p unit evidence ≡ drawn_entry p unit values turns

@@ -7,4 +7,6 @@ pub mod OneGo
 pub mod Parts
 pub mod Judging
 pub mod Ending
+pub mod Numbers
 pub mod Entering
+pub mod Making

@@ -8,9 +8,13 @@ use Rattle.pv_picks.specs.Judge.Settings.{Next, no_frame, formula_reader}
 use Rattle.pv_picks.specs.Judge.Inhaling.{inhale}
 use Rattle.pv_picks.specs.Judge.Exhaling.{Giving, exhale}
 use Rattle.pv_picks.specs.Judge.Rows.{Site, access_reader}
-use Rattle.pv_picks.specs.Judge.Judging.{judge_block}
-use Rattle.pv_picks.specs.Lazy.Runs.{Memory, LazyEnd, final, Lazily, lazy, Drawn, from_values}
-use Rattle.pv_picks.specs.Lazy.Parts.{Ran, gone, one_go, then_run}
+use Rattle.pv_picks.specs.declared.unit.PvUnit.{PvUnit}
+use Rattle.pv_picks.specs.Judge.States.{empty_state}
+use Rattle.pv_picks.specs.Judge.Judging.{finish, judge_block}
+use Rattle.pv_picks.specs.Judge.UnitRuns.{task_of, enter, go_on, judge_task}
+use Rattle.pv_picks.specs.Lazy.Runs.{Memory, LazyEnd, Final, final, Lazily, lazy, Drawn, from_values, no_memory, drawn_run}
+use Rattle.pv_picks.specs.Lazy.Parts.{Ran, gone, one_go, then_run, chain}
+use Rattle.judge_laws.specs.Entering.{drawn_entry}
 
 -- expressions, formulas and statements in one go
 abbrev pub evaluated : (ℕ → ℤ) → (ℕ → ℕ) → Scene → Expression → State → Memory → Drawn → Ran Value
@@ -69,3 +73,30 @@ JudgesInOneGo {E} stop = (values : ℕ → ℤ) (turns : ℕ → ℕ) (p : Progr
 abbrev pub StepsInOneGo : Type 0
 StepsInOneGo =
     EvaluatesInOneGo final × ValuesInOneGo final × InhalesInOneGo final × ExhalesInOneGo final × JudgesInOneGo final
+
+-- the run of a unit; and its run up to the first inhale, which goes or has ended
+abbrev pub unit_run : Program → PvUnit → (ℕ → ℤ) → (ℕ → ℕ) → Ran (Unit {0})
+unit_run p unit values turns =
+    judge_task (one_go values turns) p (task_of p unit) no_memory (record { taken = 0; turned = 0 })
+
+abbrev pub unit_entry : Program → PvUnit → (ℕ → ℤ) → (ℕ → ℕ) → Ran (Unit {0})
+unit_entry p unit values turns =
+    enter (one_go values turns) (task_of p unit) (gone tt) empty_state no_memory (record { taken = 0; turned = 0 })
+
+-- what comes next of the run of a unit is nothing
+abbrev pub UnitsInOneGo : Type 0
+UnitsInOneGo = (p : Program) (unit : PvUnit) (values : ℕ → ℤ) (turns : ℕ → ℕ) (next : Unit {0} → Next (Lazily Drawn Final))
+    → drawn_run p unit values turns ≡ then_run final (unit_run p unit values turns) next
+
+abbrev pub EntersInOneGo : Type 0
+EntersInOneGo = (p : Program) (unit : PvUnit) (values : ℕ → ℤ) (turns : ℕ → ℕ)
+    → drawn_entry p unit values turns
+    ≡ then_run final (unit_entry p unit values turns) (λ u. finish (lazy final (from_values values turns)))
+
+-- the run of a unit is its run up to the first inhale, and then the rest
+abbrev pub GoesOnInOneGo : Type 0
+GoesOnInOneGo = (p : Program) (unit : PvUnit) (values : ℕ → ℤ) (turns : ℕ → ℕ)
+    → unit_run p unit values turns ≡ chain (unit_entry p unit values turns) (λ u. go_on (one_go values turns) p (task_of p unit))
+
+abbrev pub RunsInOneGo : Type 0
+RunsInOneGo = UnitsInOneGo × EntersInOneGo × GoesOnInOneGo

@@ -18,12 +18,12 @@ IsOfReferences IntArray = Unit {0}
 IsOfReferences TruthArray = Unit {0}
 IsOfReferences Null = Unit {0}
 
--- a run ends unfit behind a pick for a reference alone: the two are related together
+-- a run ends unfit behind a pick for a reference alone, and every pick for a reference may end so: the two are related together
 pub record AreRelated {A B : Type 0} (one : Setting A) (other : Setting B) (P : A → B → Type 0) : Type 0 where
   pub finished : P one.finished other.finished
   pub blocked : P one.blocked other.blocked
   pub failed : (check : Check) (span : Span) → P (one.failed check span) (other.failed check span)
-  pub pick : (t : PvType) (f : ℤ → A) (g : ℤ → B) → ((z : ℤ) → P (f z) (g z))
+  pub pick : (t : PvType) → (IsOfReferences t → ⊥) → (f : ℤ → A) (g : ℤ → B) → ((z : ℤ) → P (f z) (g z))
       → P (one.pick t f) (other.pick t g)
   pub met : (t : PvType) → IsOfReferences t → (f : Value → Next A) (g : Value → Next B)
       → ((v : Value) (s : State) → P (f v s) (g v s)) → (s : State)

@@ -5,7 +5,9 @@ ghost use Rattle.judge_laws.specs.Judging.{JudgesAsLazy, JudgesAsDrawn, BlocksWi
 ghost use Rattle.judge_laws.specs.Drawing.{RunsAsDrawn, DrawnRunsAsLazy, RemembersPicks};
 ghost use Rattle.judge_laws.specs.Ending.{EndsUnfitAtNegative};
 ghost use Rattle.judge_laws.specs.Entering.{EntersAsDrawn, DrawnEntersAsLazy, EntersAsLazy};
-ghost use Rattle.judge_laws.specs.OneGo.{StepsInOneGo};
+ghost use Rattle.judge_laws.specs.Making.{TellsUses, MakesEvidence};
+ghost use Rattle.judge_laws.specs.Numbers.{UpWhereFit, TakesValues, KeepsTurnsBelow, RemembersEachOnce};
+ghost use Rattle.judge_laws.specs.OneGo.{StepsInOneGo, RunsInOneGo};
 ghost use Rattle.judge_laws.specs.Parts.{RunsByParts};
 ghost use Rattle.judge_laws.specs.Statements.{InhalesDirectly, ExhalesDirectly, WasHeld, ReadsNoTrueTable};
 
@@ -65,6 +67,11 @@ pub fn steps_in_one_go()
     ensures { StepsInOneGo }
 {}
 
+/// The drawn run of a unit is the run in one go; and that is the run up to the first inhale, and then the rest.
+pub fn runs_in_one_go()
+    ensures { RunsInOneGo }
+{}
+
 /// A drawn run is its parts, each with what comes next: an expression is its parts and their operations, a formula its conjuncts.
 pub fn runs_by_parts()
     ensures { RunsByParts }
@@ -88,4 +95,34 @@ pub fn drawn_enters_as_lazy()
 /// Up to the first inhale the judge ends as the lazy run does, or is blocked.
 pub fn enters_as_lazy()
     ensures { EntersAsLazy }
+{}
+
+/// A drawn run that isn't unfit takes no negative number in the place of a reference.
+pub fn up_where_fit()
+    ensures { UpWhereFit }
+{}
+
+/// A drawn run takes the values in their order, one for each type that it tells.
+pub fn takes_values()
+    ensures { TakesValues }
+{}
+
+/// A drawn run that isn't unfit is the same with other turns in place of those from 3 on.
+pub fn keeps_turns_below()
+    ensures { KeepsTurnsBelow }
+{}
+
+/// A drawn run remembers each use of an operation once, and each element of a range's pick that it reads.
+pub fn remembers_each_once()
+    ensures { RemembersEachOnce }
+{}
+
+/// Uses that differ make a table that is told well and has the value of each of them.
+pub fn tells_uses()
+    ensures { TellsUses }
+{}
+
+/// Evidence that is made of a drawn run has it as its lazy run.
+pub fn makes_evidence()
+    ensures { MakesEvidence }
 {}

@@ -2,7 +2,7 @@
 use Rattle.std.specs.Prelude.{ℕ, zero, suc, ◌+◌, ◌-◌, ℤ, pos, int_le, Bool, true, false, ◌&&◌, ◌||◌, nat_eq, if◌then◌else◌, Option, Some, None, option_map, List, [], ◌∷◌}
 use Rattle.pv_base.specs.declared.Name.{Name}
 use Rattle.pv_ast.specs.declared.PvType.{PvType}
-use Rattle.pv_ast.specs.declared.PvType.TheVariants.{Truth}
+use Rattle.pv_ast.specs.declared.PvType.TheVariants.{Int, Truth}
 use Rattle.pv_ast.specs.declared.Token.{Token}
 use Rattle.pv_ast.specs.declared.Token.TheVariants as token
 use Rattle.pv_values.specs.declared.value.Value.{Value}
@@ -173,6 +173,11 @@ with_elements s type array low high amount given = record s {
 abbrev pub as_element : PvType → ℤ → Value
 as_element Truth z = value.Truth (int_le (pos 1) z)
 as_element type z = value.Number z
+
+-- so an element of a pick is a truth value or a number
+abbrev pub as_element_type : PvType → PvType
+as_element_type Truth = Truth
+as_element_type type = Int
 
 -- the same with the values of a pick
 abbrev pub with_range : State → PvType → ℕ → ℤ → ℤ → ℕ → State

@@ -15,7 +15,7 @@ use Rattle.pv_picks.specs.declared.evidence.Evidence.{Evidence}
 use Rattle.pv_picks.specs.declared.unit.PvUnit.{PvUnit}
 use Rattle.pv_picks.specs.Plain.Core.{Operation, Minus, Program}
 use Rattle.pv_picks.specs.Formulas.Values.{width, within}
-use Rattle.pv_picks.specs.Judge.States.{Cell, Written, FromSteps, as_element, same_token}
+use Rattle.pv_picks.specs.Judge.States.{Cell, Written, FromSteps, as_element, as_element_type, same_token}
 use Rattle.pv_picks.specs.Judge.Settings.{Setting, Event, AtField, AtToken, AtLock, AtArray, ArrayPart, Known}
 use Rattle.pv_picks.specs.Judge.Repetitions.{shifted, test_at, test_from}
 use Rattle.pv_picks.specs.Judge.UnitRuns.{task_of, judge_task}
@@ -198,7 +198,7 @@ module _ {S E : Type 0} (stop : LazyEnd → Memory → E) (source : Source S E) 
   abbrev pub element_or : Option ℤ → PvType → ℕ → ℤ → (ℤ → Lazily S E) → Lazily S E
   element_or (Some z) type number index next memory s = next z memory s
   element_or None type number index next memory s =
-      source.element number index (λ z t. taking type z
+      source.element number index (λ z t. taking (as_element_type type) z
       (next z (record memory { reads = record { number = number; index = index; value = z } ∷ memory.reads }) t)) s
 
   abbrev pub lazy_read : Cell → (Value → Lazily S E) → Lazily S E

@@ -4,6 +4,7 @@ use Rattle.std.specs.List.{AllByRecursion}
 use Rattle.pv_ast.specs.declared.Program.{Program}
 use Rattle.pv_ast.specs.Rules.WellFormed.{IsWellFormed}
 use Rattle.pv_picks.specs.declared.unit.PvUnit.{PvUnit}
+use Rattle.pv_picks.specs.Plain.Core as core
 use Rattle.pv_picks.specs.Verdicts.Grounds.{NeverFails, IsPass, IsEmpty, IsFail, IsBeyond, IsSplits}
 use Rattle.pv_picks.specs.Machine.Safety.{IsSafe}
 use Rattle.pv_picks.specs.Machine.LoopRuns.{AgreesOnLoops, IsSound}
@@ -12,20 +13,27 @@ use Rattle.pv_picks.specs.declared.verdict.Verdict.TheVariants as verdict
 use Rattle.pv_picks.specs.Elaborating.Programs.{core_of}
 use Rattle.pv_picks.specs.Verdicts.Units.{units_of}
 
--- what a verdict on a unit of a program says
-abbrev pub HasGround : Program → PvUnit → Verdict → Type 0
-HasGround p unit verdict.Pass = IsPass (core_of p) unit
-HasGround p unit verdict.Empty = IsEmpty (core_of p) unit
-HasGround p unit (verdict.Fail check span evidence) = IsFail (core_of p) unit check span evidence
-HasGround p unit (verdict.Beyond check span evidence entry truth) = IsBeyond (core_of p) unit check span evidence entry truth
-HasGround p unit verdict.Splits = IsSplits (core_of p) unit
+-- what a verdict on a unit of a plain program says
+abbrev pub IsGrounded : core.Program → PvUnit → Verdict → Type 0
+IsGrounded p unit verdict.Pass = IsPass p unit
+IsGrounded p unit verdict.Empty = IsEmpty p unit
+IsGrounded p unit (verdict.Fail check span evidence) = IsFail p unit check span evidence
+IsGrounded p unit (verdict.Beyond check span evidence entry truth) = IsBeyond p unit check span evidence entry truth
+IsGrounded p unit verdict.Splits = IsSplits p unit
 
 -- each verdict on its unit
+abbrev pub AreGrounded : core.Program → List PvUnit → List Verdict → Type 0
+AreGrounded p [] [] = Unit {0}
+AreGrounded p [] (v ∷ vs) = ⊥
+AreGrounded p (u ∷ us) [] = ⊥
+AreGrounded p (u ∷ us) (v ∷ vs) = IsGrounded p u v × AreGrounded p us vs
+
+-- the same of a program
+abbrev pub HasGround : Program → PvUnit → Verdict → Type 0
+HasGround p unit v = IsGrounded (core_of p) unit v
+
 abbrev pub HaveGrounds : Program → List PvUnit → List Verdict → Type 0
-HaveGrounds p [] [] = Unit {0}
-HaveGrounds p [] (v ∷ vs) = ⊥
-HaveGrounds p (u ∷ us) [] = ⊥
-HaveGrounds p (u ∷ us) (v ∷ vs) = HasGround p u v × HaveGrounds p us vs
+HaveGrounds p units verdicts = AreGrounded (core_of p) units verdicts
 
 -- one verdict for each unit of the program, in the order of the text, each with its ground
 abbrev pub AreVerdicts : Program → List Verdict → Type 0
