@@ -1,0 +1,4 @@
+pub mod Becoming
+pub mod Holding
+pub mod Others
+pub mod Scopes
