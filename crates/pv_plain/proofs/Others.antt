@@ -23,7 +23,7 @@ use Rattle.pv_plain.specs.Held.{held, holding, IsHeldAs, IsPlaceOf}
 use Rattle.pv_plain.proofs.Holding.{is_field, free_at, operation_free, negation_free}
 
 -- a variant by its layer
-unrolled : (k : ExprKind) (l : ExprKind-F ExprKind Each Expr) → out-ExprKind k ≡ l → k ≡ roll-ExprKind l
+pub unrolled : (k : ExprKind) (l : ExprKind-F ExprKind Each Expr) → out-ExprKind k ≡ l → k ≡ roll-ExprKind l
 unrolled k l i = sym (roll-out-ExprKind k) ∙ ap roll-ExprKind i
 
 not_written : (l : ExprKind-F ExprKind Each Expr) → ((n : ℕ) → l ≡ ExprKind-F.Number n → ⊥) → written_in_kind (layer_of l) ≡ None

@@ -71,6 +71,19 @@ impl<'a> Sight<'a> {
         }
     }
 
+    /// Of an expression under one more quantifier.
+    pub(crate) fn under(self, inner: &'a Bounds<'a>) -> Sight<'a>
+        ensures around { around result ≡ around self.entry }
+        ensures scope { in_scope result ≡ names_under (marked self.entry.visible.now self.entry.mark) inner.now }
+    {
+        Sight {
+            environment: self.environment,
+            visible: self.visible,
+            mark: self.mark,
+            bounds: Some(inner),
+        }
+    }
+
     fn declared(self, name: Name) -> Option<Declared>
         ensures { result ≡ scoping.declared_as (in_scope self.entry).names name }
     {
