@@ -99,6 +99,13 @@ impl Seen {
 }
 
 /// What an expression shows of a variable.
+pub fn facts_of(e: &Expr, name: Name) -> Facts
+    ensures { facts_as result ≡ (items.shape_of e.now).facts name.0 }
+{
+    look(e, name).facts
+}
+
+/// What an expression shows of a variable, and whether it is an item for it.
 #[cycle(shapes)]
 fn look(e: &Expr, name: Name) -> Seen
     ensures facts { facts_as result.facts ≡ (items.shape_of e.now).facts name.0 }

@@ -18,6 +18,7 @@ ghost use Rattle.pv_ast.specs.Rules.Shapes as shapes;
 
 use firsts::earlier;
 pub use firsts::first_starts_first;
+pub use formulas::facts_of;
 use formulas::fault_of_formula;
 pub use parts::{items_have_parts, parts_make_items};
 pub use pv_ast::ShapeFault;

@@ -1,5 +1,5 @@
 -- What a name stands for, by the place of its number among distinct keys.
-use Rattle.std.proofs.Common.{◌≡◌, ℕ, zero, suc, ◌+◌, ◌<◌, ◌≤◌, Bool, true, false, cond, not, List, [], ◌∷◌, ◌++◌, length, drop, Option, Some, None, is_some, refl, sym, ◌∙◌, ap, nat_eq, nat_le, nat_lt, position, arith}
+use Rattle.std.proofs.Common.{◌≡◌, ℕ, zero, suc, ◌+◌, ◌<◌, ◌≤◌, Bool, true, false, cond, not, List, [], ◌∷◌, ◌++◌, length, take, drop, Option, Some, None, is_some, refl, sym, ◌∙◌, ap, nat_eq, nat_le, nat_lt, position, arith}
 use Rattle.std.proofs.lemmas.Bool.Decides.{nat_tests}
 use Rattle.std.specs.List.{AllByRecursion, IsDistinct, position_or_len}
 use Rattle.std.specs.Map.{keys_of, lookup}
@@ -97,6 +97,54 @@ pub declared_as-nowhere : (es : List (ℕ × Declared)) (name : Name) (n : ℕ) 
     → None ≡ declared_as (drop n es) name
 declared_as-nowhere es name n h =
     sym (declared_as-drop_none es name n (declared_as-lookup es name ∙ some_none (lookup (nat_eq name.0) es) h))
+
+before_step : (t : Bool) (n p : ℕ) (x rest : Option Declared) (d : Declared) → x ≡ cond (nat_lt p n) rest None
+    → cond t (Some d) x ≡ cond (nat_lt (cond (not t) (1 + p) 0) (suc n)) (cond t (Some d) rest) None
+before_step true n p x rest d e =
+    let lt : nat_lt 0 (suc n) ≡ true = grind (arith, nat_tests) in
+    sym (ap (λ b. cond b (Some d) None) lt)
+before_step false n p x rest d e =
+    let lt : nat_lt p n ≡ nat_lt (1 + p) (suc n) = grind (arith, nat_tests) in
+    e ∙ ap (λ b. cond b rest None) lt
+
+-- among the first n names, a name has its meaning if its place is there
+before : (es : List (ℕ × Declared)) (name : Name) (n : ℕ)
+    → declared_as (take n es) name ≡ cond (nat_lt (position_or_len (nat_eq name.0) (keys_of es)) n) (declared_as es name) None
+before [] name zero = sym (none_or (nat_lt 0 zero))
+before [] name (suc n) = sym (none_or (nat_lt 0 (suc n)))
+before (e ∷ es) name zero =
+    let lt : nat_lt (position_or_len (nat_eq name.0) (keys_of (e ∷ es))) 0 ≡ false = grind (arith, nat_tests) in
+    sym (ap (λ b. cond b (declared_as (e ∷ es) name) None) lt)
+before (e ∷ es) name (suc n) =
+    before_step (nat_eq name.0 e.0) n (position_or_len (nat_eq name.0) (keys_of es)) (declared_as (take n es) name)
+    (declared_as es name) e.1 (before es name n)
+
+-- a name whose place is among the first n
+pub declared_as-first : (es : List (ℕ × Declared)) (name : Name) (n i : ℕ)
+    → Some i ≡ position (nat_eq name.0) (keys_of es) → i < n
+    → declared_as es name ≡ declared_as (take n es) name
+declared_as-first es name n i e le =
+    let p = place_is (position_or_len (nat_eq name.0) (keys_of es)) (length (keys_of es)) i e in
+    let t : nat_lt (position_or_len (nat_eq name.0) (keys_of es)) n ≡ true = grind (arith, nat_tests) in
+    sym (before es name n ∙ ap (λ b. cond b (declared_as es name) None) t)
+
+-- one whose place is behind them
+pub declared_as-later : (es : List (ℕ × Declared)) (name : Name) (n i : ℕ)
+    → Some i ≡ position (nat_eq name.0) (keys_of es) → n ≤ i
+    → None ≡ declared_as (take n es) name
+declared_as-later es name n i e le =
+    let p = place_is (position_or_len (nat_eq name.0) (keys_of es)) (length (keys_of es)) i e in
+    let t : nat_lt (position_or_len (nat_eq name.0) (keys_of es)) n ≡ false = grind (arith, nat_tests) in
+    sym (before es name n ∙ ap (λ b. cond b (declared_as es name) None) t)
+
+-- and one that has no place
+pub declared_as-absent : (es : List (ℕ × Declared)) (name : Name) (n : ℕ) → false ≡ is_some (lookup (nat_eq name.0) es)
+    → None ≡ declared_as (take n es) name
+declared_as-absent es name n h =
+    let none : declared_as es name ≡ None =
+    declared_as-lookup es name ∙ some_none (lookup (nat_eq name.0) es) h in
+    let b = nat_lt (position_or_len (nat_eq name.0) (keys_of es)) n in
+    sym (before es name n ∙ (ap (λ o. cond b o None) none ∙ none_or b))
 
 put_step : (t : Bool) (e new : ℕ × Declared) (o : Option Declared) (es more : List (ℕ × Declared))
     → false ≡ is_some (cond t (Some e.1) o) → (false ≡ is_some o → more ≡ es ++ new ∷ [])

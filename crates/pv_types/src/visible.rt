@@ -59,6 +59,17 @@ impl Visible {
         }
     }
 
+    /// What a name stands for among so many names, those that were declared first.
+    pub fn declared_before(&self, count: usize, name: Name) -> Option<Declared>
+        ensures { result ≡ scoping.declared_as (take count self.now.names) name }
+    {
+        match self.names.get_index_of(&name.0) {
+            Some(at) if at < count => self.declared(name),
+            Some(_) => None,
+            None => None,
+        }
+    }
+
     /// Whether a name is in scope.
     pub fn is_visible(&self, name: Name) -> bool
         ensures { result ≡ scoping.is_visible self.now name }

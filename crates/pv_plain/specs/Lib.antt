@@ -1,0 +1,5 @@
+pub mod Sights
+pub mod Held
+pub mod Operators
+pub mod Clauses
+pub mod Olds

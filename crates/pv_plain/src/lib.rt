@@ -1,0 +1,11 @@
+//! What programs become where their meaning is told, made by code: plain trees in which each name, type and operator is settled.
+#![tactic(auto)]
+
+mod contracts;
+mod expressions;
+mod formulas;
+mod kinds;
+mod olds;
+mod operations;
+mod places;
+mod sight;
