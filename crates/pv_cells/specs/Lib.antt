@@ -4,5 +4,6 @@ pub mod Numbers
 pub mod Parts
 pub mod Picks
 pub mod Prepared
+pub mod Reading
 pub mod Stores
 pub mod Values
