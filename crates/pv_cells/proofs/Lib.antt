@@ -1,0 +1,6 @@
+pub mod Keys
+pub mod Maps
+pub mod Parts
+pub mod Picking
+pub mod Measuring
+pub mod Values

@@ -1,0 +1,9 @@
+pub mod Keys
+pub mod Limits
+pub mod Numbers
+pub mod Parts
+pub mod Picks
+pub mod Prepared
+pub mod Reading
+pub mod Stores
+pub mod Values

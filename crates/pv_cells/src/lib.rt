@@ -1,0 +1,13 @@
+//! Runs of formulas on numbers: the permission state of one run of a unit, and what inhaling and exhaling do to it.
+#![tactic(auto)]
+
+mod halt;
+mod key;
+mod lengths;
+mod prepared;
+mod store;
+
+pub use halt::Halt;
+pub use key::{ArrayKey, Resource};
+pub use prepared::Prepared;
+pub use store::{Cell, Held, Holding, Learned, Met, Scene};
