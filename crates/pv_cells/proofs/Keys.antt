@@ -1,9 +1,7 @@
 -- Keys are the same where what they name is.
-use Rattle.std.proofs.Common.{◌≡◌, ℕ, ℤ, Bool, true, false, ◌&&◌, IsTrue, refl, ap, ◌∙◌, arith, rules}
+use Rattle.std.proofs.Common.{◌≡◌, ℕ, ℤ, Bool, ◌&&◌, refl, ap, ◌∙◌, arith}
 use Rattle.std.specs.Prelude.{nat_eq}
 use Rattle.std.specs.Ordering.{int_eq}
-use Rattle.std.proofs.lemmas.Grind.{common_steps}
-use Rattle.std.proofs.lemmas.Bool.Decides.{Decides-int_eq}
 use Rattle.pv_values.specs.Heaps.{same_number}
 use Rattle.pv_ast.specs.declared.PvType.{PvType}
 use Rattle.pv_ast.specs.contracts.PvTypePartialEq.TheImpl as type_eq
@@ -29,7 +27,6 @@ alike_flip a b = grind arith
 
 pub numbers_alike : (a b : ℤ) → int_eq a b ≡ same_number b a
 numbers_alike a b = grind arith
-
 
 -- the test of derived equality
 abbrev array_type : PvType → PvType → Bool

@@ -1,5 +1,5 @@
 -- The maps of picks for ranges, by their places.
-use Rattle.std.proofs.Common.{◌≡◌, ℕ, zero, suc, ◌<◌, ◌≤◌, ℤ, pos, List, [], ◌∷◌, length, get_or, map, refl, sym, arith}
+use Rattle.std.proofs.Common.{◌≡◌, ℕ, zero, suc, ◌<◌, ◌≤◌, ℤ, pos, List, [], ◌∷◌, length, get_or, map, refl, arith}
 use Rattle.pv_picks.specs.declared.evidence.StepPair.{StepPair}
 use Rattle.pv_picks.specs.Judge.Runs.{step_value}
 use Rattle.pv_cells.specs.Prepared.{maps_in}

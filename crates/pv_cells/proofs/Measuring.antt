@@ -1,26 +1,24 @@
 -- Lengths of arrays that are known, or picked.
-use Rattle.std.proofs.Common.{◌≡◌, ℕ, ℤ, pos, Bool, true, false, ◌&&◌, if◌then◌else◌, Option, None, Some, List, refl, sym, ap, ◌∙◌, drop, cond}
+use Rattle.std.proofs.Common.{◌≡◌, ℕ, ℤ, pos, true, false, ◌&&◌, if◌then◌else◌, Option, None, Some, sym, ap, ◌∙◌, drop, cond}
 use Rattle.std.specs.Prelude.{int_le, nat_eq}
 use Rattle.std.proofs.Math.Path.{fun_ext}
 use Rattle.std.specs.HashMap.{HashMap, get}
 use Rattle.pv_cells.specs.declared.key.ArrayKey.{ArrayKey}
 use Rattle.pv_ast.specs.declared.PvType.{PvType}
 use Rattle.pv_ast.specs.Rules.Typing.{same_type}
-use Rattle.pv_picks.specs.declared.evidence.Pick.{Pick}
 use Rattle.pv_picks.specs.Judge.States.{State, with_length}
-use Rattle.pv_picks.specs.Judge.Settings.{Next, known_or_picked}
-use Rattle.pv_picks.specs.Judge.Runs.{Blocked}
+use Rattle.pv_picks.specs.Judge.Settings.{known_or_picked}
 use Rattle.pv_cells.specs.declared.halt.Halt.{Halt}
 use Rattle.pv_cells.specs.declared.halt.Halt.TheVariants as halt
 use Rattle.pv_cells.specs.declared.prepared.Prepared.{Prepared}
 use Rattle.pv_cells.specs.declared.store.Learned.{Learned}
 use Rattle.pv_cells.specs.Keys.{is_array, array_key}
-use Rattle.pv_cells.specs.Limits.{Limited, Ends, limiting, pick_number}
+use Rattle.pv_cells.specs.Limits.{limiting}
 use Rattle.pv_cells.specs.Parts.{Goes, Halts}
 use Rattle.pv_cells.specs.Picks.{IsNumber, NoNumber}
 use Rattle.pv_cells.specs.Prepared.{maps_of, table_of, left}
 use Rattle.pv_cells.specs.Stores.{with_learned, lengths_of, met_of}
-use Rattle.pv_cells.specs.Values.{length_part, Measured, Unmeasured}
+use Rattle.pv_cells.specs.Values.{Measured, Unmeasured}
 use Rattle.pv_cells.proofs.Keys.{arrays_same}
 
 -- one more length

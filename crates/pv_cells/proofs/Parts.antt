@@ -1,5 +1,5 @@
 -- Parts of runs one after the other.
-use Rattle.std.proofs.Common.{◌≡◌, Bool, true, false, if◌then◌else◌, List, refl, ◌∙◌}
+use Rattle.std.proofs.Common.{◌≡◌, Bool, true, false, if◌then◌else◌, List, ◌∙◌}
 use Rattle.pv_base.specs.declared.Span.{Span}
 use Rattle.pv_picks.specs.declared.evidence.Pick.{Pick}
 use Rattle.pv_picks.specs.Judge.States.{State}

@@ -4,8 +4,7 @@ use Rattle.std.proofs.lemmas.List.{drop_more}
 use Rattle.pv_picks.specs.declared.evidence.Pick.{Pick}
 use Rattle.pv_picks.specs.declared.evidence.Pick.TheVariants.{Number, Turn, Steps}
 use Rattle.pv_picks.specs.declared.evidence.StepPair.{StepPair}
-use Rattle.pv_picks.specs.Judge.Runs.{Blocked}
-use Rattle.pv_cells.specs.Limits.{Limited, Ends, pick_number}
+use Rattle.pv_cells.specs.Limits.{pick_number}
 use Rattle.pv_cells.specs.Picks.{IsNumber, NoNumber}
 
 pub number_left : (picks : List Pick) (n : ℕ) (z : ℤ) (d : Pick) → n < length picks → get_or picks n d ≡ Number z

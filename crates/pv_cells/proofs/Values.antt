@@ -1,5 +1,5 @@
 -- Values of expressions, by those of their parts.
-use Rattle.std.proofs.Common.{◌≡◌, ℕ, ℤ, Bool, true, false, not, if◌then◌else◌, Option, None, Some, option_map, List, refl, sym, ap, ◌∙◌}
+use Rattle.std.proofs.Common.{◌≡◌, ℤ, Bool, true, false, not, if◌then◌else◌, Option, None, Some, option_map, List, refl, ap, ◌∙◌}
 use Rattle.std.specs.Prelude.{nat_eq}
 use Rattle.pv_base.specs.declared.Name.{Name}
 use Rattle.pv_base.specs.declared.Span.{Span}
@@ -9,7 +9,7 @@ use Rattle.pv_values.specs.declared.value.Value.TheVariants as value
 use Rattle.pv_picks.specs.declared.evidence.Pick.{Pick}
 use Rattle.pv_picks.specs.Plain.Core.{Operation, Manner, Plain, Tabled, Comparison, Expression, Constant, This, Result, Variable, Field, Element, Length, Not, Compute, Compare, Equal, And, Or, Implies, Old}
 use Rattle.pv_picks.specs.Formulas.Values.{number_in, truth_in, reference_in, arithmetic, comparison, equality}
-use Rattle.pv_picks.specs.Judge.States.{State, Cell, Cells, Resource, InField, InElement}
+use Rattle.pv_picks.specs.Judge.States.{State, Cell, InField, InElement}
 use Rattle.pv_picks.specs.Judge.Settings.{Next, or_missing, look_at_length}
 use Rattle.pv_picks.specs.Judge.Runs.{content, value_of_operation}
 use Rattle.pv_cells.specs.declared.halt.Halt.{Halt}
@@ -21,8 +21,8 @@ use Rattle.pv_cells.specs.Parts.{Part, Goes, Halts}
 use Rattle.pv_cells.specs.Prepared.{maps_of, table_of, left}
 use Rattle.pv_cells.specs.Reading.{read_in, worked, before}
 use Rattle.pv_cells.specs.Stores.{with_learned}
-use Rattle.pv_cells.specs.Values.{Surroundings, Valued, Unvalued, Measured, Unmeasured, Reads, value_part, length_part}
-use Rattle.pv_cells.proofs.Parts.{goes_on, stops_first, stops_then, halts_if, first_halts, second_halts, overflow_halts}
+use Rattle.pv_cells.specs.Values.{Surroundings, Valued, Unvalued, Measured, Unmeasured, value_part, length_part}
+use Rattle.pv_cells.proofs.Parts.{stops_first, stops_then, halts_if, first_halts, second_halts, overflow_halts}
 
 module _ (given : Prepared) (around : Surroundings) where
   -- What is at hand
@@ -155,7 +155,7 @@ module _ (given : Prepared) (around : Surroundings) where
   unfolding Valued Unvalued Unmeasured Goes
   length_stops type e span from mid to o h g apart u cells s r =
       let measured : Part Value = λ missing next. look_at_length (limiting (maps_of given) (table_of given)) type
-          (reference_in o) (λ z. next (value.Number z)) in
+      (reference_in o) (λ z. next (value.Number z)) in
       stops_then (value_part given cells around.old around.scene e) _ _ _ _ _ _ _ o h (g cells s r)
       (halts_if h _ measured _ _ _ _ _ apart (stops_first (length_part given type (reference_in o)) (λ n missing next. next (value.Number n)) _ _ _ _ h (u s)))
 

@@ -7,3 +7,4 @@ pub mod Prepared
 pub mod Reading
 pub mod Stores
 pub mod Values
+pub mod Views

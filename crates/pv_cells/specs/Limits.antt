@@ -1,7 +1,6 @@
 -- Runs on numbers of 128 bits: a run of the judge that ends, besides, where a value doesn't fit or a range is too long.
 use Rattle.std.specs.Prelude.{ℕ, ℤ, pos, negsuc, Bool, ◌&&◌, nat_lt, int_le, if◌then◌else◌, List, [], ◌∷◌}
 use Rattle.pv_base.specs.declared.Span.{Span}
-use Rattle.pv_picks.specs.declared.check.Check.{Check}
 use Rattle.pv_picks.specs.declared.evidence.Pick.{Pick}
 use Rattle.pv_picks.specs.declared.evidence.Pick.TheVariants.{Number, Turn, Steps}
 use Rattle.pv_picks.specs.declared.evidence.Entry.{Entry}

@@ -1,5 +1,5 @@
 -- What is hashed of a key.
-use Rattle.std.specs.Prelude.{◌≡◌, IsTrue, ℕ, List, [], ◌∷◌, ◌++◌}
+use Rattle.std.specs.Prelude.{◌≡◌, IsTrue, ℕ, List, ◌++◌}
 use Rattle.std.specs.Hash as fed
 use Rattle.std.specs.Cmp.Rules.{hashing}
 use Rattle.std.proofs.Common.{rules}

@@ -1,15 +1,13 @@
 -- What a call says that does a part of a run: what comes next goes on from where the call left the run, or the run ends.
-use Rattle.std.specs.Prelude.{◌≡◌, ℕ, ℤ, List, drop}
+use Rattle.std.specs.Prelude.{◌≡◌, List}
 use Rattle.pv_base.specs.declared.Span.{Span}
 use Rattle.pv_picks.specs.declared.evidence.Pick.{Pick}
-use Rattle.pv_picks.specs.Judge.States.{State, Cells}
+use Rattle.pv_picks.specs.Judge.States.{State}
 use Rattle.pv_picks.specs.Judge.Settings.{Next}
 use Rattle.pv_picks.specs.Judge.Runs.{Blocked, Failed}
 use Rattle.pv_cells.specs.declared.halt.Halt.{Halt}
 use Rattle.pv_cells.specs.declared.halt.Halt.TheVariants as halt
-use Rattle.pv_cells.specs.declared.store.Learned.{Learned}
-use Rattle.pv_cells.specs.Limits.{Limited, Ending, Ends, Overflows, TooLong}
-use Rattle.pv_cells.specs.Stores.{with_learned}
+use Rattle.pv_cells.specs.Limits.{Limited, Ends, Overflows, TooLong}
 
 -- a part of a run, by what comes where something is missing, and by what comes next
 abbrev pub Part : Type 0 → Type 0

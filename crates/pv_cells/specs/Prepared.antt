@@ -1,5 +1,5 @@
 -- What prepared evidence gives.
-use Rattle.std.specs.Prelude.{ℕ, ℤ, pos, List, [], ◌∷◌, map, drop}
+use Rattle.std.specs.Prelude.{pos, List, [], ◌∷◌, map, drop}
 use Rattle.pv_picks.specs.declared.evidence.Pick.{Pick}
 use Rattle.pv_picks.specs.declared.evidence.Pick.TheVariants.{Number, Turn, Steps}
 use Rattle.pv_picks.specs.declared.evidence.StepPair.{StepPair}

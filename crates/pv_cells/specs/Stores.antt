@@ -1,17 +1,14 @@
 -- What the stores of a run stand for.
-use Rattle.std.specs.Prelude.{◌≡◌, ℕ, ℤ, pos, Option, None, Some, option_map, List, [], ◌∷◌, ◌++◌, map, drop, slice_get}
+use Rattle.std.specs.Prelude.{ℕ, ℤ, pos, Option, option_map, List, [], ◌∷◌, ◌++◌}
 use Rattle.std.specs.HashMap.{HashMap, get}
 use Rattle.std.specs.Option.{unwrap_or}
 use Rattle.std.specs.Prelude.{nat_eq}
 use Rattle.pv_ast.specs.declared.PvType.{PvType}
 use Rattle.pv_values.specs.declared.value.Value.{Value}
 use Rattle.pv_values.specs.declared.value.Value.TheVariants as value
-use Rattle.pv_picks.specs.declared.evidence.Pick.{Pick}
-use Rattle.pv_picks.specs.declared.evidence.StepPair.{StepPair}
 use Rattle.pv_picks.specs.Formulas.Values.{Variables}
 use Rattle.pv_picks.specs.Formulas.Evaluation as evaluation
 use Rattle.pv_picks.specs.Judge.States as states
-use Rattle.pv_picks.specs.Judge.Runs.{Maps, step_value}
 use Rattle.pv_cells.specs.declared.key.ArrayKey.{ArrayKey}
 use Rattle.pv_cells.specs.declared.key.Resource.{Resource}
 use Rattle.pv_cells.specs.declared.store.Cell.{Cell}

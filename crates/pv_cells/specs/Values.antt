@@ -1,16 +1,15 @@
 -- Values of expressions: what a call says that evaluates one.
-use Rattle.std.specs.Prelude.{◌≡◌, ℕ, ℤ, List}
-use Rattle.pv_base.specs.declared.Span.{Span}
+use Rattle.std.specs.Prelude.{◌≡◌, ℕ, ℤ}
 use Rattle.pv_ast.specs.declared.PvType.{PvType}
 use Rattle.pv_values.specs.declared.value.Value.{Value}
 use Rattle.pv_picks.specs.Plain.Core.{Expression}
 use Rattle.pv_picks.specs.Formulas.Evaluation.{Scene, evaluate}
 use Rattle.pv_picks.specs.Judge.States.{State, Cells}
-use Rattle.pv_picks.specs.Judge.Settings.{Next, look_at_length}
+use Rattle.pv_picks.specs.Judge.Settings.{look_at_length}
 use Rattle.pv_cells.specs.declared.halt.Halt.{Halt}
 use Rattle.pv_cells.specs.declared.prepared.Prepared.{Prepared}
 use Rattle.pv_cells.specs.declared.store.Learned.{Learned}
-use Rattle.pv_cells.specs.Limits.{Limited, limiting, reader_within}
+use Rattle.pv_cells.specs.Limits.{limiting, reader_within}
 use Rattle.pv_cells.specs.Parts.{Part, Goes, Halts}
 use Rattle.pv_cells.specs.Prepared.{maps_of, table_of, left}
 use Rattle.pv_cells.specs.Stores.{with_learned}

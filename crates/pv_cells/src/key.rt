@@ -5,7 +5,6 @@ ghost use Rattle.std.specs.Cmp.Rules.{comparing, hashing};
 ghost use Rattle.std.proofs.Common.{rules};
 ghost use Rattle.pv_cells.specs.Numbers.{numbers_of, same_numbers};
 
-
 use pv_ast::{PvType, Token};
 use pv_base::Name;
 use std::hash::{Hash, Hasher};

@@ -4,8 +4,10 @@
 mod halt;
 mod key;
 mod lengths;
+mod plainly;
 mod prepared;
 mod store;
+mod value;
 
 pub use halt::Halt;
 pub use key::{ArrayKey, Resource};

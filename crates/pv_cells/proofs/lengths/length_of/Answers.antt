@@ -1,5 +1,5 @@
 -- A length that is known.
-use Rattle.std.proofs.Common.{◌≡◌, rules, Some, to_z, of_z, arith}
+use Rattle.std.proofs.Common.{◌≡◌, rules, Some, to_z, of_z}
 use mir.Syntax.{w128}
 use Rattle.pv_cells.specs.Stores.{lengths_of}
 use Rattle.pv_cells.proofs.Measuring.{known_length}

@@ -1,10 +1,8 @@
 -- A length that is picked, and one that is negative.
-use Rattle.std.proofs.Common.{◌≡◌, rules, Some, to_z, of_z, arith, ℕ, true, false, pos, refl}
+use Rattle.std.proofs.Common.{◌≡◌, rules, to_z, of_z, true, false, pos, refl}
 use Rattle.std.specs.Prelude.{int_le}
 use mir.Syntax.{w128}
-use Rattle.pv_ast.specs.declared.PvType.{PvType}
 use Rattle.pv_cells.proofs.Measuring.{picked_length, negative_length, more_lengths}
-use Rattle.pv_cells.proofs.Keys.{arrays_same}
 use Rattle.pv_cells.specs.Keys.{array_key}
 use Rattle.pv_cells.proofs.lengths.pick_length.Goals as goal
 

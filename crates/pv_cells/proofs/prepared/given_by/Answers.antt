@@ -1,5 +1,5 @@
 -- The map at the place gives the value, if there is one.
-use Rattle.std.proofs.Common.{◌≡◌, rules, sym, ◌∙◌, ap, to_z, of_z, arith}
+use Rattle.std.proofs.Common.{◌≡◌, rules, ◌∙◌, ap, to_z, of_z, arith}
 use mir.Syntax.{w128}
 use Rattle.pv_picks.specs.Judge.Runs.{step_value}
 use Rattle.pv_cells.proofs.Maps.{map_at}
