@@ -59,7 +59,8 @@ fact_formula e x y o h within a v f =
 
 not_fact : (e x y : Expr) (o : Operator) → e.kind ≡ tree.Binary o x y → (within : Option Span) (a : Environment)
     (v : Visible) → is_fact within o ((shape_of e).facts 0).pure ≡ false
-    → (elaborated_expression e).formula within a v ≡ joined o within e.span (elaborated_expression x) (elaborated_expression y) a v
+    → (elaborated_expression e).formula within a v ≡ joined o within e.span (elaborated_expression x) (elaborated_expression
+        y) a v
 not_fact e x y o h within a v f =
     binary_formula e x y o h within a v ∙ ap (λ b. operator_formula b e x y o within a v) f
 
@@ -150,7 +151,8 @@ pub token_formula : (e x : Expr) (t : Token) → e.kind ≡ tree.Token t x → (
     ≡ core.Holds t (class_at (typing_in (checked_expression x) a v)) (core_of_expression a v x) (conjunct within e.span)
 token_formula e x t h within a v =
     formula_shown e (ExprKind-F.Token t x) (tree.Token t x) h (tree.rolls-Token t x) within a v
-    ∙ ap (λ (p : CheckedExpression). core.Holds t (class_at (typing_in p a v)) (core_of_expression a v x) (conjunct within e.span))
+    ∙ ap (λ (p : CheckedExpression). core.Holds t (class_at (typing_in p a v)) (core_of_expression a v x) (conjunct within
+        e.span))
     (checked_in_elaborated x)
 
 -- arguments one by one
@@ -371,7 +373,8 @@ token_item token.Uncommitted x span name within a v h = refl
 
 committed_token : (t : Token) (x : Expr) (span : Span) (name : Name) (within : Option Span) (a : Environment) (v : Visible)
     → commits t ≡ true → item_in_kind (layer_of (ExprKind-F.Token t x)) span name within a v
-    ≡ core.Committed (class_at (typing_in (elaborated_expression x).checked a v)) (core_of_expression a v x) (conjunct within span)
+    ≡ core.Committed (class_at (typing_in (elaborated_expression x).checked a v)) (core_of_expression a v x) (conjunct within
+        span)
 committed_token token.Idle x span name within a v h = absurd cc
 committed_token token.Running x span name within a v h = absurd cc
 committed_token token.Committed x span name within a v h = refl
@@ -399,7 +402,8 @@ item_layer : (l : ExprKind-F ExprKind Each Expr) → ((o : Operator) (x y : Expr
     → ((x : Expr) (m n : ℕ) (s : Span) → l ≡ ExprKind-F.Perm x m n s → ⊥)
     → ((t : Token) (x : Expr) → l ≡ ExprKind-F.Token t x → ⊥)
     → (span : Span) (name : Name) (within : Option Span) (a : Environment) (v : Visible)
-    → item_in_kind (layer_of l) span name within a v ≡ core.Repeated (expression_in_kind (layer_of l) span a v) (conjunct within span)
+    → item_in_kind (layer_of l) span name within a v ≡ core.Repeated (expression_in_kind (layer_of l) span a v) (conjunct
+        within span)
 item_layer (ExprKind-F.Binary o x y) b p t span name within a v = absurd (b o x y refl)
 item_layer (ExprKind-F.Perm x m n s) b p t span name within a v = absurd (p x m n s refl)
 item_layer (ExprKind-F.Token k x) b p t span name within a v = absurd (t k x refl)

@@ -31,7 +31,8 @@ together_three (core.Join i is) js ks = ap (core.Join i) (together_three is js k
 abbrev pub all_items : Name → Environment → Visible → (ClauseKind → Bool) → List Clause → Items
 all_items name a v stands clauses = core_of_all_items name a v (formulas_at stands clauses)
 
-first_items : (name : Name) (a : Environment) (v : Visible) (stands : ClauseKind → Bool) (x : Clause) (rest : List Clause) (b : Bool)
+first_items : (name : Name) (a : Environment) (v : Visible) (stands : ClauseKind
+    → Bool) (x : Clause) (rest : List Clause) (b : Bool)
     → stands x.kind ≡ b
     → together (items_where b name a v x.formula) (all_items name a v stands rest) ≡ all_items name a v stands (x ∷ rest)
 first_items name a v stands x rest true h = rw h refl

@@ -109,11 +109,11 @@ module _ {S : Type 0} (path : S → List Literal) (turns : S → List ℕ) (deci
       (λ e. operand_at e.values r) (λ e. sym (same e)))
 
   -- a value that decides
-  module _ (x : core.Expression) (yes other : Evidence → Part Value) (stores : Stores) (old : S) where
-    abbrev pub decides : Evidence → Value → Part Value
+  module _ {B : Type 0} (x : core.Expression) (yes other : Evidence → Part B) (stores : Stores) (old : S) where
+    abbrev pub decides : Evidence → Value → Part B
     decides e v t = (hooks e.values e.turns).deciding (truth_in v) (if truth_in v then yes e t else other e t)
 
-    abbrev pub branch : Evidence → Part Value
+    abbrev pub branch : Evidence → Part B
     branch e s m d = chain (value_of x e s m d) (decides e)
 
     pub branch_first : May branch stores old → May (value_of x) stores old
@@ -153,7 +153,7 @@ module _ {S : Type 0} (path : S → List Literal) (turns : S → List ℕ) (deci
             asks tells sorted (said false is)
             (sequences.may_then path turns decisions stands ended sorts own (value_of x) decides stores old mid next v one ready)
 
-        pub yes_done : told ≡ true → (new : S) (came : Evidence → Came Value)
+        pub yes_done : told ≡ true → (new : S) (came : Evidence → Came B)
             → Done path turns decisions stands ended sorts own yes next last new came
             → Done path turns decisions stands ended sorts own branch stores old new came
         yes_done is new came h = sequences.done_then path turns decisions stands ended sorts own (value_of x) decides stores old
@@ -161,7 +161,7 @@ module _ {S : Type 0} (path : S → List Literal) (turns : S → List ℕ) (deci
             (sequences.done_decided path turns decisions stands ended sorts own truth yes other next mid last true asks tells
             sorted (said true is) new came h)
 
-        pub no_done : told ≡ false → (new : S) (came : Evidence → Came Value)
+        pub no_done : told ≡ false → (new : S) (came : Evidence → Came B)
             → Done path turns decisions stands ended sorts own other next last new came
             → Done path turns decisions stands ended sorts own branch stores old new came
         no_done is new came h = sequences.done_then path turns decisions stands ended sorts own (value_of x) decides stores old

@@ -150,7 +150,7 @@ module _ {S : Type 0} (path : S → List Literal) (turns : S → List ℕ) (deci
         → OnErr r (Halted path turns decisions stands ended sorts own (run_plain reading scene y) stores old new)
     value_stops r h =
         subst (λ z. OnErr r (Halted path turns decisions stands ended sorts own (run_plain reading scene z) stores old new))
-            same h
+        same h
 
   -- an expression that has its value at once
   pub value_here : (reading : Reading) (scene : SymbolScene) (stores : Stores) (asker : S) (v : Operand)

@@ -8,6 +8,7 @@ pub mod Operating
 pub mod Sequences
 pub mod Evaluating
 pub mod Expressing
+pub mod Conjuncts
 pub mod Truths
 pub mod Orders
 pub mod Scenes

@@ -144,7 +144,7 @@ module _ {S : Type 0} (path : S → List Literal) (turns : S → List ℕ) (deci
           ≡ went_at e own next (value.Number (term_value e.values t)) (length (sorts new)) (length (turns new))
       same e =
           let z : e.values (length (sorts old)) ≡ term_value e.values t = new_number e.values (length (sorts old)) t symbol
-              plus in
+          plus in
           let y : e.values (length (sorts old)) ≡ number_of e.values t.symbol.0 =
           new_number e.values (length (sorts old)) (record { symbol = t.symbol; plus = pos 0 }) symbol refl
           ∙ search (rules, ints) in
@@ -152,7 +152,7 @@ module _ {S : Type 0} (path : S → List Literal) (turns : S → List ℕ) (deci
           ++ record { used = use_at e.values operation a b; value = e.values (length (sorts old)) } ∷ [] =
           ap (λ xs. uses_at e.values xs) uses ∙ uses_append e.values stores.uses.items _
           ∙ ap (λ n. uses_at e.values stores.uses.items ++ record { used = use_at e.values operation a b; value = n } ∷ [])
-              (sym y) in
+          (sym y) in
           let n : suc (length (sorts old)) ≡ length (sorts new) =
           let l : length (sorts new) ≡ length (sorts old) + 1 =
           ap (λ ts. length ts) made ∙ length-append (sorts old) (Number ∷ []) in omega (arith, l) in
@@ -221,7 +221,7 @@ module _ {S : Type 0} (path : S → List Literal) (turns : S → List ℕ) (deci
       does_shown path turns decisions stands ended sorts old mid mid shows behind (λ e. at_end (came e)) asks
       (used_tells path turns decisions sorts old mid operation a b stores.uses.items (subst Rested is rests)) sorted
       (λ e f up. ap (λ found. value_in found e) (sym (subst (Found (Some s)) is (subst (λ o. Found o us) some says) e f)) ∙
-          same e) came
+      same e) came
       (does_here path turns decisions stands ended sorts mid came)
     where
       came : Evidence → Came Value
@@ -248,7 +248,7 @@ module _ {S : Type 0} (path : S → List Literal) (turns : S → List ℕ) (deci
         (begun (run_use operation a b) own stores (length (sorts old)) (length (turns old))) came
     use_made new came two = does_shown path turns decisions stands ended sorts old mid new shows behind rest asks
         (used_tells path turns decisions sorts old mid operation a b stores.uses.items (subst Rested is rests)) sorted same
-            came two
+        came two
 
     pub use_refused : (new : S) → Halts path turns decisions stands ended sorts mid new rest
         → Halts path turns decisions stands ended sorts old new

@@ -71,7 +71,7 @@ up_taken before mid v type z r made up = subst (λ ts. AreUp ts v) (sym (next_to
 
 took_taken : {A : Type 0} (before mid last : List Sort) (v : Values) (type : PvType) (z : ℤ) (r : Ran A)
     → mid ≡ before ++ sort_of type ∷ [] → AreUp before v → Falls before mid v r → IsFront mid last → (AreUp mid v
-        → Took mid last v r)
+    → Took mid last v r)
     → Took before last v (taking type z r)
 unfolding Took
 took_taken before mid last v type z r made up falls front took = go (up_or_not before (sort_of type) v up)

@@ -22,7 +22,7 @@ use pv_picks::plain::{Comparison, Expression, Manner, Operation};
 
 /// The value of an expression, or the difference that it is.
 #[cycle(operand)]
-fn operand<K: Asker>(
+pub(crate) fn operand<K: Asker>(
     reading: Reading,
     scene: &SymbolScene,
     own: &SymbolScene,

@@ -2,6 +2,7 @@
 #![tactic(auto)]
 
 mod eval;
+mod formulas;
 mod operands;
 mod operations;
 mod questions;
@@ -9,6 +10,7 @@ mod scene;
 mod uses;
 mod values;
 
+pub use formulas::{Outcome, exhale, inhale};
 pub use scene::{Local, Met, Stores, SymbolPick, SymbolScene};
 pub use uses::TabledUse;
 pub use values::{SymbolTruth, SymbolValue};

@@ -20,7 +20,8 @@ formula-returns-in_ok-b-in-Binary t c =
     let w = c.args.within in
     let a = around c.args.sight in
     let v = in_scope c.args.sight in
-    rw (star_formula e c.in-Binary.a c.in-Binary.b c.in-Binary.operator c.in-Binary.is w a v (sym c.if-is_fact.ensures) (sym c.if-keeps_left.ensures))
+    rw (star_formula e c.in-Binary.a c.in-Binary.b c.in-Binary.operator c.in-Binary.is w a v (sym c.if-is_fact.ensures) (sym
+        c.if-keeps_left.ensures))
     (grind (arith, common_steps))
 
 pub formula-returns-in_ok-body-in-Binary : goal.formula-returns-in_ok-body-in-Binary
@@ -29,7 +30,8 @@ formula-returns-in_ok-body-in-Binary t c =
     let w = c.args.within in
     let a = around c.args.sight in
     let v = in_scope c.args.sight in
-    rw (when_formula e c.in-Binary.a c.in-Binary.b c.in-Binary.operator c.in-Binary.is w a v (sym c.if-is_fact.ensures) (sym c.if-is_implication.ensures))
+    rw (when_formula e c.in-Binary.a c.in-Binary.b c.in-Binary.operator c.in-Binary.is w a v (sym c.if-is_fact.ensures) (sym
+        c.if-is_implication.ensures))
     (grind (arith, common_steps))
 
 pub formula-returns-else-is_implication : goal.formula-returns-else-is_implication
@@ -38,7 +40,8 @@ formula-returns-else-is_implication t c =
     let w = c.args.within in
     let a = around c.args.sight in
     let v = in_scope c.args.sight in
-    rw (refused_formula e c.in-Binary.a c.in-Binary.b c.in-Binary.operator c.in-Binary.is w a v (sym c.if-is_fact.ensures) (sym c.if-keeps_left.ensures) (sym c.if-is_implication.ensures))
+    rw (refused_formula e c.in-Binary.a c.in-Binary.b c.in-Binary.operator c.in-Binary.is w a v (sym c.if-is_fact.ensures)
+        (sym c.if-keeps_left.ensures) (sym c.if-is_implication.ensures))
     (grind (arith, common_steps))
 
 pub formula-returns-in-Perm : goal.formula-returns-in-Perm
@@ -83,7 +86,8 @@ formula-returns-in_default t c =
     let w = c.args.within in
     let a = around c.args.sight in
     let v = in_scope c.args.sight in
-    rw (plain_formula e c.in_default.not-Binary c.in_default.not-Perm c.in_default.not-Token c.in_default.not-Instance c.in_default.not-Each w a v)
+    rw (plain_formula e c.in_default.not-Binary c.in_default.not-Perm c.in_default.not-Token c.in_default.not-Instance
+        c.in_default.not-Each w a v)
     (grind (arith, common_steps))
 
 pub item-returns-then-not-is_implication : goal.item-returns-then-not-is_implication
@@ -92,7 +96,8 @@ item-returns-then-not-is_implication t c =
     let w = c.args.within in
     let a = around c.args.sight in
     let v = in_scope c.args.sight in
-    rw (repeated_operator e c.in-Binary.a c.in-Binary.b c.in-Binary.operator c.in-Binary.is c.args.name w a v (sym c.if-not-is_implication.ensures))
+    rw (repeated_operator e c.in-Binary.a c.in-Binary.b c.in-Binary.operator c.in-Binary.is c.args.name w a v (sym
+        c.if-not-is_implication.ensures))
     (grind (arith, common_steps))
 
 pub item-returns-in_ok-body-in-Binary : goal.item-returns-in_ok-body-in-Binary
@@ -102,8 +107,10 @@ item-returns-in_ok-body-in-Binary t c =
     let a = around c.args.sight in
     let v = in_scope c.args.sight in
     let shown = sym (ap (λ e. (shape_of e).facts c.args.name.0) c.get.ensures) in
-    let fixing = ap (λ (f : Facts). is_fixing f.form) shown ∙ sym (c.if-is_fixing.ensures ∙ ap (λ (f : Facts). is_fixing f.form) c.facts_of-form.ensures) in
-    rw (fixed_item e c.in-Binary.a c.in-Binary.b c.in-Binary.operator c.in-Binary.is c.args.name w a v (sym c.if-not-is_implication.ensures) fixing)
+    let fixing = ap (λ (f : Facts). is_fixing f.form) shown ∙ sym (c.if-is_fixing.ensures ∙ ap (λ (f : Facts). is_fixing
+        f.form) c.facts_of-form.ensures) in
+    rw (fixed_item e c.in-Binary.a c.in-Binary.b c.in-Binary.operator c.in-Binary.is c.args.name w a v (sym
+        c.if-not-is_implication.ensures) fixing)
     (grind (arith, common_steps))
 
 pub item-returns-in_ok-item-in-Binary : goal.item-returns-in_ok-item-in-Binary
@@ -113,9 +120,12 @@ item-returns-in_ok-item-in-Binary t c =
     let a = around c.args.sight in
     let v = in_scope c.args.sight in
     let shown = sym (ap (λ e. (shape_of e).facts c.args.name.0) c.get.ensures) in
-    let fixing = ap (λ (f : Facts). is_fixing f.form) shown ∙ sym (c.if-is_fixing.ensures ∙ ap (λ (f : Facts). is_fixing f.form) c.facts_of-form.ensures) in
-    let guard = ap (λ (f : Facts). is_guard f.form) shown ∙ sym (c.if-is_guard.ensures ∙ ap (λ (f : Facts). is_guard f.form) c.facts_of-form.ensures) in
-    rw (guarded_item e c.in-Binary.a c.in-Binary.b c.in-Binary.operator c.in-Binary.is c.args.name w a v (sym c.if-not-is_implication.ensures) fixing guard)
+    let fixing = ap (λ (f : Facts). is_fixing f.form) shown ∙ sym (c.if-is_fixing.ensures ∙ ap (λ (f : Facts). is_fixing
+        f.form) c.facts_of-form.ensures) in
+    let guard = ap (λ (f : Facts). is_guard f.form) shown ∙ sym (c.if-is_guard.ensures ∙ ap (λ (f : Facts). is_guard f.form)
+        c.facts_of-form.ensures) in
+    rw (guarded_item e c.in-Binary.a c.in-Binary.b c.in-Binary.operator c.in-Binary.is c.args.name w a v (sym
+        c.if-not-is_implication.ensures) fixing guard)
     (grind (arith, common_steps))
 
 pub item-returns-else-is_guard : goal.item-returns-else-is_guard
@@ -125,9 +135,12 @@ item-returns-else-is_guard t c =
     let a = around c.args.sight in
     let v = in_scope c.args.sight in
     let shown = sym (ap (λ e. (shape_of e).facts c.args.name.0) c.get.ensures) in
-    let fixing = ap (λ (f : Facts). is_fixing f.form) shown ∙ sym (c.if-is_fixing.ensures ∙ ap (λ (f : Facts). is_fixing f.form) c.facts_of-form.ensures) in
-    let guard = ap (λ (f : Facts). is_guard f.form) shown ∙ sym (c.if-is_guard.ensures ∙ ap (λ (f : Facts). is_guard f.form) c.facts_of-form.ensures) in
-    rw (repeated_implication_item e c.in-Binary.a c.in-Binary.b c.in-Binary.operator c.in-Binary.is c.args.name w a v (sym c.if-not-is_implication.ensures) fixing guard)
+    let fixing = ap (λ (f : Facts). is_fixing f.form) shown ∙ sym (c.if-is_fixing.ensures ∙ ap (λ (f : Facts). is_fixing
+        f.form) c.facts_of-form.ensures) in
+    let guard = ap (λ (f : Facts). is_guard f.form) shown ∙ sym (c.if-is_guard.ensures ∙ ap (λ (f : Facts). is_guard f.form)
+        c.facts_of-form.ensures) in
+    rw (repeated_implication_item e c.in-Binary.a c.in-Binary.b c.in-Binary.operator c.in-Binary.is c.args.name w a v (sym
+        c.if-not-is_implication.ensures) fixing guard)
     (grind (arith, common_steps))
 
 pub item-returns-in-Perm : goal.item-returns-in-Perm
@@ -172,7 +185,8 @@ items-returns-in_ok-second-in-Binary t c =
     let w = c.args.within in
     let a = around c.args.sight in
     let v = in_scope c.args.sight in
-    rw (both_items e c.in-Binary.a c.in-Binary.b c.in-Binary.operator c.in-Binary.is c.args.name w a v (sym c.if-keeps_left.ensures))
+    rw (both_items e c.in-Binary.a c.in-Binary.b c.in-Binary.operator c.in-Binary.is c.args.name w a v (sym
+        c.if-keeps_left.ensures))
     (grind (arith, common_steps))
 
 pub items-returns-in_ok-item-in-Binary : goal.items-returns-in_ok-item-in-Binary
@@ -181,7 +195,8 @@ items-returns-in_ok-item-in-Binary t c =
     let w = c.args.within in
     let a = around c.args.sight in
     let v = in_scope c.args.sight in
-    rw (operator_items e c.in-Binary.a c.in-Binary.b c.in-Binary.operator c.in-Binary.is c.args.name w a v (sym c.if-keeps_left.ensures))
+    rw (operator_items e c.in-Binary.a c.in-Binary.b c.in-Binary.operator c.in-Binary.is c.args.name w a v (sym
+        c.if-keeps_left.ensures))
     (grind (arith, common_steps))
 
 pub items-returns-in_ok-item-in_default : goal.items-returns-in_ok-item-in_default

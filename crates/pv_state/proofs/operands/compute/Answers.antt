@@ -12,7 +12,7 @@ pub returns-in_err-t-in-Tabled-clause-halts : goal.returns-in_err-t-in-Tabled-cl
 returns-in_err-t-in-Tabled-clause-halts g c =
     let K = g.K.Asker in
     rw c.in-Tabled.is (when_err c.from_residual-in_err-t-in-Tabled.result (halts_used K.path K.turns K.decisions K.stands
-        K.ended K.sorts
+    K.ended K.sorts
     c.args.own.now c.args.stores.now c.args.operation c.args.a c.args.b c.args.span c.in_ok-l.l c.in_ok-r.r
     c.in_ok-l.ensures.value c.in_ok-r.ensures.value c.args.asker.now c.value_of_use.new.asker
     c.in_err-t-in-Tabled.ensures.halts))
@@ -21,7 +21,7 @@ pub returns-in_ok-x-in-Plain-clause-does : goal.returns-in_ok-x-in-Plain-clause-
 returns-in_ok-x-in-Plain-clause-does g c =
     let K = g.K.Asker in
     rw c.in-Plain.is (does_plain K.path K.turns K.decisions K.stands K.ended K.sorts c.args.own.now c.args.stores.now
-        c.args.operation c.args.a
+    c.args.operation c.args.a
     c.args.b c.args.span c.in_ok-l.l c.in_ok-r.r c.in_ok-l.ensures.value c.in_ok-r.ensures.value c.args.asker.now
     c.in_ok-x-in-Plain.x c.in_ok-x-in-Plain.ensures.value)
 
@@ -29,7 +29,7 @@ pub returns-in_ok-t-in-Tabled-clause-does : goal.returns-in_ok-t-in-Tabled-claus
 returns-in_ok-t-in-Tabled-clause-does g c =
     let K = g.K.Asker in
     rw c.in-Tabled.is (does_used K.path K.turns K.decisions K.stands K.ended K.sorts c.args.own.now c.args.stores.now
-        c.args.operation c.args.a
+    c.args.operation c.args.a
     c.args.b c.args.span c.in_ok-l.l c.in_ok-r.r c.in_ok-l.ensures.value c.in_ok-r.ensures.value c.args.asker.now
     c.value_of_use.new.asker c.value_of_use.new.stores c.in_ok-t-in-Tabled.t c.in_ok-t-in-Tabled.ensures.does)
 
