@@ -1,5 +1,6 @@
 -- Items and formulas one behind the other.
-use Rattle.std.proofs.Common.{◌≡◌, ℕ, ◌+◌, ◌<◌, ◌≤◌, Bool, true, false, List, [], ◌∷◌, ◌++◌, length, drop, get_or, refl, sym, ◌∙◌, ap, map, filter, cond, if◌then◌else◌}
+use Rattle.std.proofs.Common.{◌≡◌, ℕ, ◌+◌, ◌<◌, ◌≤◌, Bool, true, false, List, [], ◌∷◌, ◌++◌, length, drop, get_or, refl, sym, ◌∙◌, ap, map, filter, cond, if◌then◌else◌, Result, Ok, Err}
+use Rattle.std.specs.Result.{OnOk}
 use Rattle.std.proofs.lemmas.List.{at_drop_more, at_drop_all}
 use Rattle.pv_base.specs.declared.Name.{Name}
 use Rattle.pv_ast.specs.declared.Clause.{Clause}
@@ -61,3 +62,8 @@ pub items_end : (name : Name) (a : Environment) (v : Visible) (stands : ClauseKi
     → length clauses ≤ at → together (items_of all) (all_items name a v stands (drop at clauses)) ≡ items_of all
 items_end name a v stands clauses at all le =
     at_drop_all (λ l. together (items_of all) (all_items name a v stands l)) clauses at le ∙ together_none (items_of all)
+
+-- what holds behind an `Ok` gives what follows from it
+pub on_ok : {A E : Type 0} (r : Result A E) {P Q : Type 0} → (P → Q) → OnOk r P → OnOk r Q
+on_ok (Ok a) f h = f h
+on_ok (Err e) f h = h

@@ -5,3 +5,5 @@ pub mod Scopes
 pub mod Conjuncts
 pub mod Gathering
 pub mod Oldness
+pub mod Stating
+pub mod Naming

@@ -3,3 +3,4 @@ pub mod Held
 pub mod Operators
 pub mod Clauses
 pub mod Olds
+pub mod Sites

@@ -14,7 +14,7 @@ mod noting;
 mod ranges;
 mod rights;
 mod scoped;
-mod sets;
+pub mod sets;
 mod simple;
 mod site;
 mod standing;

@@ -9,7 +9,7 @@ use std::alloc::Global;
 
 /// A set of names. A test takes the same time however many there are.
 #[derive(Drop)]
-pub(crate) struct NameSet {
+pub struct NameSet {
     numbers: IndexSet<u32>,
 }
 
@@ -17,7 +17,7 @@ ghost use Rattle.pv_types.specs.Sets.{has_name};
 
 impl NameSet {
     /// The empty set.
-    pub(crate) fn new(alloc: Global) -> NameSet
+    pub fn new(alloc: Global) -> NameSet
         ensures { (n : NameOf) → has_name result n ≡ false }
     {
         NameSet {
@@ -26,14 +26,14 @@ impl NameSet {
     }
 
     /// Whether the set has a name.
-    pub(crate) fn has(&self, name: Name) -> bool
+    pub fn has(&self, name: Name) -> bool
         ensures { result ≡ has_name self.now name }
     {
         self.numbers.contains(&name.0)
     }
 
     /// Puts a name in. Whether it was new.
-    pub(crate) fn insert(&mut self, name: Name) -> Result<bool, NoMemory>
+    pub fn insert(&mut self, name: Name) -> Result<bool, NoMemory>
         ensures fresh { IfOk result (λ fresh. fresh ≡ not (has_name self.old name)) }
         ensures put { OnOk result ((n : NameOf) → has_name self.new n ≡ (same_name n name || has_name self.old n)) }
     {
