@@ -1,8 +1,14 @@
+pub mod Elements
 pub mod Fitting
+pub mod Amounts
+pub mod Gains
+pub mod Given
 pub mod Keys
 pub mod Maps
 pub mod Parts
-pub mod Picking
+pub mod Picked
+pub mod PicksLeft
 pub mod Measuring
+pub mod Stopping
 pub mod Trees
 pub mod Values
