@@ -11,7 +11,7 @@ use Rattle.pv_picks.specs.declared.evidence.Pick.{Pick}
 use Rattle.pv_picks.specs.Judge.States as states
 use Rattle.pv_picks.specs.Judge.States.{State, InField, empty_state, at_resource, holding, amount_held, cell_held, amount_of, with_holding, with_amount, with_cell}
 use Rattle.pv_picks.specs.Judge.Settings.{Next}
-use Rattle.pv_picks.specs.Judge.Permissions.{gain, gain_on, gain_field}
+use Rattle.pv_picks.specs.Judge.Permissions.{gain, gain_on, gain_field, add_whole}
 use Rattle.pv_picks.specs.Judge.Runs.{Blocked}
 use Rattle.pv_cells.specs.declared.halt.Halt.{Halt}
 use Rattle.pv_cells.specs.declared.halt.Halt.TheVariants as halt
@@ -150,3 +150,25 @@ unfolding Stops
 at_object_stops given class object name type amount old from h e k =
     ends_alike h _ _ (λ end g s next.
     by_null given class object name type amount next (standing s old from) (left given from) false (not_null object e) ∙ g s next) k
+
+-- What is held whole
+
+pub is_there : {S : Type 0} (given : Prepared) (r : states.Resource) (held : HashMap Resource Holding S) (l : Learned)
+    → (amount_held (held_of held r) ≡ 0 → ⊥)
+    → Stops given (λ next. add_whole (setting_of given) r next) held l halt.Blocked
+unfolding Stops EndsAt
+is_there given r held l e s next =
+    ap (λ b. (if b then next (with_amount (standing s held l) r whole) else (setting_of given).blocked) (left given l))
+    (not_null (amount_held (held_of held r)) e)
+
+pub added_whole : {S : Type 0} (given : Prepared) (r : states.Resource) (old new : HashMap Resource Holding S) (l : Learned)
+    (c : states.Cell)
+    → amount_held (held_of old r) ≡ 0 → c ≡ cell_held (held_of old r)
+    → ((q : states.Resource) → held_of new q ≡ at_resource r (holding whole c) (held_of old) q)
+    → Moves given (λ next. add_whole (setting_of given) r next) old l new l
+unfolding Moves
+added_whole given r old new l c none is put s next =
+    ap (λ b. (if b then next (with_amount (standing s old l) r whole) else (setting_of given).blocked) (left given l))
+    (null_is (amount_held (held_of old r)) none)
+    ∙ ap (λ k. next (with_holding (standing s old l) r (holding whole k)) (left given l)) (sym is)
+    ∙ ap (λ t. next t (left given l)) (sym (standing_put s old new l r (holding whole c) put))

@@ -12,3 +12,4 @@ pub mod Measuring
 pub mod Stopping
 pub mod Trees
 pub mod Values
+pub mod Widths

@@ -4,6 +4,8 @@ ghost use Rattle.pv_fraction.specs.Amounts.{whole};
 ghost use Rattle.pv_picks.specs.Judge.States as states;
 ghost use Rattle.pv_picks.specs.Formulas.Values.{within};
 ghost use Rattle.pv_picks.specs.Judge.Permissions as permissions;
+ghost use Rattle.pv_cells.specs.declared.prepared.Prepared.{Prepared as Given};
+ghost use Rattle.pv_cells.specs.declared.store.Learned.{Learned as WhatWasLearned};
 ghost use Rattle.pv_cells.specs.Keys.{resource_of};
 ghost use Rattle.pv_cells.specs.Moves.{Moves, Stops, setting_of};
 
@@ -106,4 +108,22 @@ pub(crate) fn is_within(length: i128, index: i128) -> bool
     ensures { result ≡ within (pos 0) length index }
 {
     0 <= index && index < length
+}
+
+/// A token or a lock, which is held whole. Blocked where it is there already.
+#[tactic(auto, using(crate::proofs::Stopping::out_of_memory))]
+pub(crate) fn add_whole(resource: Resource, held: &mut Held) -> Result<(), Halt>
+    ensures goes { OnOk result ((given : Given) (l : WhatWasLearned) → Moves given (λ next. permissions.add_whole (setting_of given) (resource_of resource) next) held.old l held.new l) }
+    ensures stops { IfErr result (λ halt. (given : Given) (l : WhatWasLearned) → Stops given (λ next. permissions.add_whole (setting_of given) (resource_of resource) next) held.old l halt) }
+{
+    let there = holding_at(held, resource);
+    if there.amount != 0 {
+        return Err(Halt::Blocked);
+    }
+    let whole = Holding {
+        amount: UNIT,
+        cell: there.cell,
+    };
+    put(held, resource, whole)?;
+    Ok(())
 }

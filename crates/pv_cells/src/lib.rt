@@ -10,6 +10,7 @@ mod lengths;
 mod picking;
 mod plainly;
 mod prepared;
+mod ranging;
 mod store;
 mod value;
 

@@ -1,0 +1,53 @@
+//! The elements of a range, position by position: each costs one look-up.
+ghost use Rattle.std.specs.Prelude.{◌≡◌, ◌+◌, nat_le, true, false, OnOk, IfOk};
+ghost use Rattle.pv_fraction.specs.Amounts.{whole};
+ghost use Rattle.pv_picks.specs.Formulas.Values.{width};
+ghost use Rattle.pv_picks.specs.Judge.States as states;
+ghost use Rattle.pv_picks.specs.Judge.Permissions.{at_all};
+ghost use Rattle.pv_cells.specs.Stores.{held_of};
+
+use crate::gaining::fits_with;
+use crate::holdings::holding_at;
+use crate::key::Resource;
+use crate::store::Held;
+use pv_ast::PvType;
+
+/// Whether each element from the first index to below the second is held in so great an amount.
+#[tactic(auto, using(crate::proofs::Widths::none_left))]
+pub(crate) fn has_each(kind: PvType, array: u128, low: i128, high: i128, amount: u64, held: &Held) -> bool
+    ensures { result ≡ at_all (λ i. nat_le amount (states.amount_held (held_of held.now (states.InElement kind array i)))) low (width low high) }
+{
+    for index in low..high {
+        if !has(kind, array, index, amount, held) {
+            return false;
+        }
+    }
+    true
+}
+
+/// Whether each element from the first index to below the second has room for so much more.
+#[tactic(auto, using(crate::proofs::Widths::none_left))]
+pub(crate) fn has_room(kind: PvType, array: u128, low: i128, high: i128, amount: u64, held: &Held) -> bool
+    ensures { result ≡ at_all (λ i. nat_le (states.amount_held (held_of held.now (states.InElement kind array i)) + amount) whole) low (width low high) }
+{
+    for index in low..high {
+        if !has_room_at(kind, array, index, amount, held) {
+            return false;
+        }
+    }
+    true
+}
+
+/// Whether an element is held in so great an amount.
+fn has(kind: PvType, array: u128, index: i128, amount: u64, held: &Held) -> bool
+    ensures { result ≡ nat_le amount (states.amount_held (held_of held.now (states.InElement kind array index))) }
+{
+    amount <= holding_at(held, Resource::Element(kind, array, index)).amount
+}
+
+/// Whether an element has room for so much more.
+fn has_room_at(kind: PvType, array: u128, index: i128, amount: u64, held: &Held) -> bool
+    ensures { result ≡ nat_le (states.amount_held (held_of held.now (states.InElement kind array index)) + amount) whole }
+{
+    fits_with(holding_at(held, Resource::Element(kind, array, index)).amount, amount)
+}
