@@ -1,3 +1,4 @@
+pub mod Among
 pub mod Elements
 pub mod Fitting
 pub mod Amounts

@@ -1,16 +1,18 @@
 //! The elements of a range, position by position: each costs one look-up.
-ghost use Rattle.std.specs.Prelude.{◌≡◌, ◌+◌, nat_le, true, false, OnOk, IfOk};
+ghost use Rattle.std.specs.Prelude.{◌≡◌, ◌+◌, ◌-◌, nat_le, if◌then◌else◌, OnOk};
 ghost use Rattle.pv_fraction.specs.Amounts.{whole};
 ghost use Rattle.pv_picks.specs.Formulas.Values.{width};
 ghost use Rattle.pv_picks.specs.Judge.States as states;
 ghost use Rattle.pv_picks.specs.Judge.Permissions.{at_all};
+ghost use Rattle.pv_cells.specs.Keys.{resource_of};
 ghost use Rattle.pv_cells.specs.Stores.{held_of};
 
 use crate::gaining::fits_with;
-use crate::holdings::holding_at;
+use crate::holdings::{holding_at, put};
 use crate::key::Resource;
-use crate::store::Held;
+use crate::store::{Held, Holding};
 use pv_ast::PvType;
+use pv_base::NoMemory;
 
 /// Whether each element from the first index to below the second is held in so great an amount.
 #[tactic(auto, using(crate::proofs::Widths::none_left))]
@@ -50,4 +52,33 @@ fn has_room_at(kind: PvType, array: u128, index: i128, amount: u64, held: &Held)
     ensures { result ≡ nat_le (states.amount_held (held_of held.now (states.InElement kind array index)) + amount) whole }
 {
     fits_with(holding_at(held, Resource::Element(kind, array, index)).amount, amount)
+}
+
+/// So much less of each element from the first index to below the second; of one that has less nothing is left.
+pub(crate) fn take_each(
+    kind: PvType,
+    array: u128,
+    low: i128,
+    high: i128,
+    amount: u64,
+    held: &mut Held,
+) -> Result<(), NoMemory>
+    ensures { OnOk result ((r : states.Resource) → held_of held.new r ≡ (if states.is_among kind array low high r then states.holding (states.amount_held (held_of held.old r) - amount) (states.cell_held (held_of held.old r)) else held_of held.old r)) }
+{
+    for index in low..high {
+        take(Resource::Element(kind, array, index), amount, held)?;
+    }
+    Ok(())
+}
+
+/// So much less of one resource.
+fn take(resource: Resource, amount: u64, held: &mut Held) -> Result<(), NoMemory>
+    ensures { OnOk result ((r : states.Resource) → held_of held.new r ≡ states.at_resource (resource_of resource) (states.holding (states.amount_held (held_of held.old (resource_of resource)) - amount) (states.cell_held (held_of held.old (resource_of resource)))) (held_of held.old) r) }
+{
+    let there = holding_at(held, resource);
+    let rest = Holding {
+        amount: there.amount.saturating_sub(amount),
+        cell: there.cell,
+    };
+    put(held, resource, rest)
 }
