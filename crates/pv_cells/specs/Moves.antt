@@ -1,8 +1,9 @@
 -- What a call says that changes what a run holds: what comes next goes on from where the call left the run, or the run ends.
-use Rattle.std.specs.Prelude.{◌≡◌, ℕ, Bool, if◌then◌else◌, List}
+use Rattle.std.specs.Prelude.{◌≡◌, ℕ, ℤ, Bool, if◌then◌else◌, List}
 use Rattle.std.specs.HashMap.{HashMap}
+use Rattle.pv_ast.specs.declared.PvType.{PvType}
 use Rattle.pv_picks.specs.declared.evidence.Pick.{Pick}
-use Rattle.pv_picks.specs.Judge.Permissions.{give}
+use Rattle.pv_picks.specs.Judge.Permissions.{give, give_range}
 use Rattle.pv_picks.specs.Judge.States as states
 use Rattle.pv_picks.specs.Judge.States.{State}
 use Rattle.pv_picks.specs.Judge.Settings.{Next, Setting}
@@ -51,4 +52,12 @@ Stops given move held from halt = EndsAt halt
 unfoldable pub Gives : {S : Type 0} → states.Resource → ℕ → HashMap Resource Holding S → Bool → HashMap Resource Holding S → Type 0
 Gives r amount held enough now = (given : Prepared) (l : Learned) (s : State) (short : Limited) (next : Next Limited)
     → give (setting_of given) r amount short next (standing s held l) (left given l)
+    ≡ (if enough then next (standing s now l) else short) (left given l)
+
+-- the same of each element of a range
+unfoldable pub GivesRange : {S : Type 0} → PvType → ℕ → ℤ → ℤ → ℕ → HashMap Resource Holding S → Bool
+    → HashMap Resource Holding S → Type 0
+GivesRange type array low high amount held enough now = (given : Prepared) (l : Learned) (s : State) (ends : List ℤ)
+    (short : Limited) (next : Next Limited)
+    → give_range (setting_of given) type array low high ends amount short next (standing s held l) (left given l)
     ≡ (if enough then next (standing s now l) else short) (left given l)
