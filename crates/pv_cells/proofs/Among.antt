@@ -1,5 +1,5 @@
 -- The elements of a range, changed one after the other.
-use Rattle.std.proofs.Common.{◌≡◌, ℕ, ℤ, pos, ◌+ℤ◌, ◌≤ℤ◌, ◌<ℤ◌, Bool, true, false, ◌&&◌, ◌⊎◌, inl, inr, if◌then◌else◌, Option, refl, sym, ap, ◌∙◌, arith, rules}
+use Rattle.std.proofs.Common.{◌≡◌, ℕ, ℤ, pos, ◌+ℤ◌, ◌≤ℤ◌, ◌<ℤ◌, Bool, true, false, ◌&&◌, ◌⊎◌, inl, inr, if◌then◌else◌, Option, None, Some, refl, sym, ap, ◌∙◌, arith, rules}
 use Rattle.std.specs.Prelude.{nat_eq, int_le, int_lt}
 use Rattle.std.proofs.lemmas.Int.{ints}
 use Rattle.std.proofs.lemmas.Grind.{common_steps}
@@ -8,7 +8,7 @@ use Rattle.pv_ast.specs.declared.PvType.{PvType}
 use Rattle.pv_ast.specs.declared.PvType.TheVariants.{Int, Truth, Object, IntArray, TruthArray, Null}
 use Rattle.pv_ast.specs.Rules.Typing.{same_type}
 use Rattle.pv_picks.specs.Formulas.Values.{within}
-use Rattle.pv_picks.specs.Judge.States.{Resource, InField, InElement, OfToken, OfLock, Holding, same_resource, at_resource, is_among}
+use Rattle.pv_picks.specs.Judge.States.{Resource, InField, InElement, OfToken, OfLock, Cell, Holding, same_resource, at_resource, is_among, cell_among}
 use Rattle.pv_picks.proofs.Sames.{resources_same}
 
 -- two truths that decide each other are one
@@ -95,7 +95,7 @@ one_more_put t a low i F cur old new h l before is put r = put r ∙ go (same_re
         ∙ ap (λ q. if is_among t a low (i +ℤ pos 1) q then F q else old q) (sym (resources_same r here e))
     go false e = before r ∙ ap (λ b. if b then F r else old r) (sym (among_other t a low i r e))
 
-both_parts : (x y : Bool) → (x && y) ≡ true → (x ≡ true) × (y ≡ true)
+pub both_parts : (x y : Bool) → (x && y) ≡ true → (x ≡ true) × (y ≡ true)
 both_parts true true e = (refl, refl)
 both_parts true false e = absurd (cc e)
 both_parts false y e = absurd (cc e)
@@ -123,3 +123,16 @@ ended_among t a low i high (OfToken k c o) e b = refl
 ended_among t a low i high (OfLock c o) e b = refl
 ended_among t a low i high (InElement u c j) e b =
     ap (λ w. same_type u t && (nat_eq c a && w)) (ended_within low i high j e b)
+
+-- an element that the loop hasn't come to
+pub still_old : (t : PvType) (a : ℕ) (low i : ℤ) (F cur old : Resource → Option Holding)
+    → ((r : Resource) → cur r ≡ (if is_among t a low i r then F r else old r))
+    → cur (InElement t a i) ≡ old (InElement t a i)
+still_old t a low i F cur old before =
+    before (InElement t a i) ∙ ap (λ b. if b then F (InElement t a i) else old (InElement t a i)) (not_yet t a low i)
+
+-- what an element is given doesn't hang on where the range begins
+pub given_alike : (h : Option Holding) (given : ℤ → Cell) (t : PvType) (a : ℕ) (i x y : ℤ)
+    → cell_among h given (InElement t a i) x ≡ cell_among h given (InElement t a i) y
+given_alike None given t a i x y = refl
+given_alike (Some h) given t a i x y = refl

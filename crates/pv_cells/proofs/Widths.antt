@@ -4,6 +4,7 @@ use Rattle.std.specs.Prelude.{int_lt}
 use Rattle.std.proofs.lemmas.Int.{ints}
 use Rattle.pv_picks.specs.Formulas.Values.{width, or_zero}
 use Rattle.pv_picks.specs.Judge.Permissions.{at_all}
+use Rattle.pv_cells.proofs.Among.{both_parts}
 
 one_above : (d e : ℤ) → d ≡ e +ℤ pos 1 → pos 0 ≤ℤ e → or_zero d ≡ suc (or_zero e)
 one_above d (pos n) is l = rw is (omega arith)
@@ -54,3 +55,10 @@ pub passes_in : (test : ℤ → Bool) (first last i next : ℤ) → next ≡ (i 
 passes_in test first last i next e below passes same =
     let l : i <ℤ last = search rules in
     ap (λ z. at_all test z (width z last)) e ∙ one_passes test i last l passes ∙ same
+
+-- where all pass, the first does, and the others
+pub first_and_rest : (test : ℤ → Bool) (low high : ℤ) → int_lt low high ≡ true → at_all test low (width low high) ≡ true
+    → (test low ≡ true) × (at_all test (low +ℤ pos 1) (width (low +ℤ pos 1) high) ≡ true)
+first_and_rest test low high below all =
+    let l : low <ℤ high = search rules in
+    both_parts (test low) (at_all test (low +ℤ pos 1) (width (low +ℤ pos 1) high)) (sym (one_more test low high l) ∙ all)

@@ -1,16 +1,16 @@
 //! The elements of a range, position by position: each costs one look-up.
-ghost use Rattle.std.specs.Prelude.{◌≡◌, ◌+◌, ◌-◌, nat_le, if◌then◌else◌, OnOk};
+ghost use Rattle.std.specs.Prelude.{◌≡◌, ◌+◌, ◌-◌, ◌≤◌, nat_le, true, if◌then◌else◌, OnOk};
 ghost use Rattle.pv_fraction.specs.Amounts.{whole};
 ghost use Rattle.pv_picks.specs.Formulas.Values.{width};
 ghost use Rattle.pv_picks.specs.Judge.States as states;
 ghost use Rattle.pv_picks.specs.Judge.Permissions.{at_all};
 ghost use Rattle.pv_cells.specs.Keys.{resource_of};
-ghost use Rattle.pv_cells.specs.Stores.{held_of};
+ghost use Rattle.pv_cells.specs.Stores.{cell_of, held_of};
 
 use crate::gaining::fits_with;
 use crate::holdings::{holding_at, put};
 use crate::key::Resource;
-use crate::store::{Held, Holding};
+use crate::store::{Cell, Held, Holding};
 use pv_ast::PvType;
 use pv_base::NoMemory;
 
@@ -81,4 +81,59 @@ fn take(resource: Resource, amount: u64, held: &mut Held) -> Result<(), NoMemory
         cell: there.cell,
     };
     put(held, resource, rest)
+}
+
+/// So much more of each element from the first index to below the second. One that wasn't held takes its value from the pick for
+/// ranges of this number.
+pub(crate) fn add_each(
+    kind: PvType,
+    array: u128,
+    low: i128,
+    high: i128,
+    amount: u64,
+    number: usize,
+    held: &mut Held,
+) -> Result<(), NoMemory>
+    requires { at_all (λ i. nat_le (states.amount_held (held_of held.old (states.InElement kind array i)) + amount) whole) low (width low high) ≡ true }
+    ensures { OnOk result ((r : states.Resource) → held_of held.new r ≡ (if states.is_among kind array low high r then states.holding (states.amount_held (held_of held.old r) + amount) (states.cell_among (held_of held.old r) (states.FromSteps kind number) r low) else held_of held.old r)) }
+{
+    for index in low..high {
+        add(kind, array, index, amount, number, held)?;
+    }
+    Ok(())
+}
+
+/// So much more of one element.
+fn add(
+    kind: PvType,
+    array: u128,
+    index: i128,
+    amount: u64,
+    number: usize,
+    held: &mut Held,
+) -> Result<(), NoMemory>
+    requires { states.amount_held (held_of held.old (states.InElement kind array index)) + amount ≤ whole }
+    ensures { OnOk result ((r : states.Resource) → held_of held.new r ≡ states.at_resource (states.InElement kind array index) (states.holding (states.amount_held (held_of held.old (states.InElement kind array index)) + amount) (states.cell_among (held_of held.old (states.InElement kind array index)) (states.FromSteps kind number) (states.InElement kind array index) index)) (held_of held.old) r) }
+{
+    let place = Resource::Element(kind, array, index);
+    let there = element_at(kind, array, index, number, held);
+    let more = Holding {
+        amount: there.amount + amount,
+        cell: there.cell,
+    };
+    put(held, place, more)
+}
+
+/// What is held of an element, or nothing of what the pick for ranges gives it.
+fn element_at(kind: PvType, array: u128, index: i128, number: usize, held: &Held) -> Holding
+    ensures amount { result.amount ≡ states.amount_held (held_of held.now (states.InElement kind array index)) }
+    ensures cell { cell_of result.cell ≡ states.cell_among (held_of held.now (states.InElement kind array index)) (states.FromSteps kind number) (states.InElement kind array index) index }
+{
+    match held.get(&Resource::Element(kind, array, index)) {
+        Some(h) => *h,
+        None => Holding {
+            amount: 0,
+            cell: Cell::FromSteps(kind, number, index),
+        },
+    }
 }
