@@ -1,5 +1,6 @@
 pub mod Among
 pub mod Elements
+pub mod Filled
 pub mod Fitting
 pub mod Amounts
 pub mod Gains

@@ -3,9 +3,9 @@ use Rattle.std.specs.Prelude.{◌≡◌, ℕ, ℤ, Bool, if◌then◌else◌, Li
 use Rattle.std.specs.HashMap.{HashMap}
 use Rattle.pv_ast.specs.declared.PvType.{PvType}
 use Rattle.pv_picks.specs.declared.evidence.Pick.{Pick}
-use Rattle.pv_picks.specs.Judge.Permissions.{give, give_range}
+use Rattle.pv_picks.specs.Judge.Permissions.{give, give_range, has_room}
 use Rattle.pv_picks.specs.Judge.States as states
-use Rattle.pv_picks.specs.Judge.States.{State}
+use Rattle.pv_picks.specs.Judge.States.{State, with_range}
 use Rattle.pv_picks.specs.Judge.Settings.{Next, Setting}
 use Rattle.pv_picks.specs.Judge.Runs.{Blocked, Failed}
 use Rattle.pv_cells.specs.declared.halt.Halt.{Halt}
@@ -61,3 +61,9 @@ GivesRange type array low high amount held enough now = (given : Prepared) (l : 
     (short : Limited) (next : Next Limited)
     → give_range (setting_of given) type array low high ends amount short next (standing s held l) (left given l)
     ≡ (if enough then next (standing s now l) else short) (left given l)
+
+-- a range of elements inside its array is gained: the values are one pick
+abbrev pub filling : Prepared → PvType → ℕ → ℤ → ℤ → ℕ → Move
+filling given type array low high amount next state =
+    if has_room state type array low high amount then (setting_of given).steps state.steps type array
+    (next (with_range state type array low high amount)) else (setting_of given).blocked

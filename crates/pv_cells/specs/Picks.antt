@@ -8,9 +8,10 @@ use Rattle.pv_picks.specs.Judge.Runs.{Blocked}
 use Rattle.pv_picks.specs.Judge.States.{State}
 use Rattle.pv_picks.specs.Judge.Settings.{pick_value}
 use Rattle.pv_cells.specs.declared.halt.Halt.{Halt}
+use Rattle.pv_cells.specs.declared.halt.Halt.TheVariants as halt
 use Rattle.pv_cells.specs.declared.prepared.Prepared.{Prepared}
 use Rattle.pv_cells.specs.declared.store.Learned.{Learned}
-use Rattle.pv_cells.specs.Limits.{Limited, Ends, limiting, pick_number}
+use Rattle.pv_cells.specs.Limits.{Limited, Ends, limiting, pick_number, pick_steps}
 use Rattle.pv_cells.specs.Parts.{Part, Goes, Halts}
 use Rattle.pv_cells.specs.Prepared.{maps_of, table_of, left}
 use Rattle.pv_cells.specs.Stores.{with_learned}
@@ -43,3 +44,13 @@ Picked given type from v to =
 unfoldable pub Unpicked : Prepared → PvType → Learned → Halt → Learned → Type 0
 Unpicked given type from halt to =
     (s : State) → Halts (pick_part given type) (with_learned s from) (left given from) halt (with_learned s to) (left given to)
+
+-- a pick for a range, and these are left
+unfoldable pub IsSteps : List Pick → List Pick → Type 0
+IsSteps picks rest = (next : Limited) → pick_steps next picks ≡ next rest
+
+-- none, or something else, unless memory ran out
+unfoldable pub NoSteps : Halt → List Pick → Type 0
+NoSteps halt.Blocked picks = (next : Limited) → pick_steps next picks ≡ Ends Blocked
+NoSteps halt.NoMemory picks = Unit {0}
+NoSteps _ picks = ⊥

@@ -1,6 +1,7 @@
 //! Runs of formulas on numbers: the permission state of one run of a unit, and what inhaling and exhaling do to it.
 #![tactic(auto)]
 
+mod filling;
 mod gaining;
 mod giving;
 mod halt;
