@@ -1,14 +1,12 @@
--- Elements that a run gains.
+-- What a run does inside an array, behind a look at its length.
 use Rattle.std.proofs.Common.{◌≡◌, ℕ, ℤ, pos, Bool, true, false, if◌then◌else◌, List, refl, sym, ap, ◌∙◌, arith}
 use Rattle.std.specs.Prelude.{nat_eq}
 use Rattle.std.specs.HashMap.{HashMap}
 use Rattle.pv_base.specs.declared.Span.{Span}
 use Rattle.pv_ast.specs.declared.PvType.{PvType}
 use Rattle.pv_picks.specs.declared.evidence.Pick.{Pick}
-use Rattle.pv_picks.specs.Formulas.Values.{within}
-use Rattle.pv_picks.specs.Judge.States.{State, InElement, empty_state}
+use Rattle.pv_picks.specs.Judge.States.{State, empty_state}
 use Rattle.pv_picks.specs.Judge.Settings.{Next, look_at_length}
-use Rattle.pv_picks.specs.Judge.Permissions.{gain, gain_element}
 use Rattle.pv_picks.specs.Judge.Runs.{Blocked}
 use Rattle.pv_cells.specs.declared.halt.Halt.{Halt}
 use Rattle.pv_cells.specs.declared.halt.Halt.TheVariants as halt
@@ -17,7 +15,7 @@ use Rattle.pv_cells.specs.declared.prepared.Prepared.{Prepared}
 use Rattle.pv_cells.specs.declared.store.Holding.{Holding}
 use Rattle.pv_cells.specs.declared.store.Learned.{Learned}
 use Rattle.pv_cells.specs.Limits.{Limited, Ends, Overflows}
-use Rattle.pv_cells.specs.Moves.{Moves, Stops, EndsAt, setting_of, standing}
+use Rattle.pv_cells.specs.Moves.{Move, inside_array, Moves, Stops, EndsAt, setting_of, standing}
 use Rattle.pv_cells.specs.Parts.{Goes, Halts}
 use Rattle.pv_cells.specs.Prepared.{left}
 use Rattle.pv_cells.specs.Stores.{held_of}
@@ -25,28 +23,27 @@ use Rattle.pv_cells.specs.Values.{Measured, Unmeasured}
 use Rattle.pv_cells.proofs.Gains.{null_is, not_null}
 use Rattle.pv_cells.proofs.Stopping.{ends_alike}
 
-module _ (given : Prepared) (type : PvType) (array : ℕ) (index : ℤ) (amount : ℕ) where
+module _ (given : Prepared) (type : PvType) (array : ℕ) (test : ℤ → Bool) (inner : Move) where
   -- what is done behind the length
   behind : Next Limited → ℤ → Next Limited
-  behind next n state = if within (pos 0) n index then gain (setting_of given) type (InElement type array index) amount next state
-      else (setting_of given).blocked
+  behind next n state = if test n then inner next state else (setting_of given).blocked
 
   by_null : (next : Next Limited) (s : State) (picks : List Pick) (b : Bool) → nat_eq array 0 ≡ b
-      → gain_element (setting_of given) type array index amount next s picks
+      → inside_array given type array test inner next s picks
       ≡ (if b then (λ p. Ends Blocked) else look_at_length (setting_of given) type array (behind next) s) picks
   unfolding behind
   by_null next s picks b e =
       ap (λ c. (if c then (setting_of given).blocked else look_at_length (setting_of given) type array (behind next) s) picks) e
 
   pub at_null : {S : Type 0} (held : HashMap Resource Holding S) (l : Learned) → array ≡ 0
-      → Stops given (λ next. gain_element (setting_of given) type array index amount next) held l halt.Blocked
+      → Stops given (inside_array given type array test inner) held l halt.Blocked
   unfolding Stops EndsAt
   at_null held l e s next = by_null next (standing s held l) (left given l) true (null_is array e)
 
   -- the run comes to the length
   come_to : {S : Type 0} (held : HashMap Resource Holding S) (from to : Learned) (n : ℤ) → (array ≡ 0 → ⊥)
       → Measured given type array from n to → (s : State) (next : Next Limited)
-      → gain_element (setting_of given) type array index amount next (standing s held from) (left given from)
+      → inside_array given type array test inner next (standing s held from) (left given from)
       ≡ behind next n (standing s held to) (left given to)
   unfolding Measured Goes
   come_to held from to n e m s next =
@@ -54,42 +51,42 @@ module _ (given : Prepared) (type : PvType) (array : ℕ) (index : ℤ) (amount 
       ∙ m (record s { held = held_of held }) (λ span state picks. Ends Blocked) (behind next)
 
   pub outside : {S : Type 0} (held : HashMap Resource Holding S) (from to : Learned) (n : ℤ) → (array ≡ 0 → ⊥)
-      → Measured given type array from n to → within (pos 0) n index ≡ false
-      → Stops given (λ next. gain_element (setting_of given) type array index amount next) held from halt.Blocked
+      → Measured given type array from n to → test n ≡ false
+      → Stops given (inside_array given type array test inner) held from halt.Blocked
   unfolding Stops EndsAt behind
   outside held from to n e m w s next =
       come_to held from to n e m s next
-      ∙ ap (λ b. (if b then gain (setting_of given) type (InElement type array index) amount next (standing s held to)
+      ∙ ap (λ b. (if b then inner next (standing s held to)
       else (setting_of given).blocked) (left given to)) w
 
   -- inside, it goes on with gaining
   inside : {S : Type 0} (held : HashMap Resource Holding S) (from to : Learned) (n : ℤ) → (array ≡ 0 → ⊥)
-      → Measured given type array from n to → within (pos 0) n index ≡ true → (s : State) (next : Next Limited)
-      → gain_element (setting_of given) type array index amount next (standing s held from) (left given from)
-      ≡ gain (setting_of given) type (InElement type array index) amount next (standing s held to) (left given to)
+      → Measured given type array from n to → test n ≡ true → (s : State) (next : Next Limited)
+      → inside_array given type array test inner next (standing s held from) (left given from)
+      ≡ inner next (standing s held to) (left given to)
   unfolding behind
   inside held from to n e m w s next =
       come_to held from to n e m s next
-      ∙ ap (λ b. (if b then gain (setting_of given) type (InElement type array index) amount next (standing s held to)
+      ∙ ap (λ b. (if b then inner next (standing s held to)
       else (setting_of given).blocked) (left given to)) w
 
   pub at_place : {S : Type 0} (old new : HashMap Resource Holding S) (from mid to : Learned) (n : ℤ) → (array ≡ 0 → ⊥)
-      → Measured given type array from n mid → within (pos 0) n index ≡ true
-      → Moves given (λ next. gain (setting_of given) type (InElement type array index) amount next) old mid new to
-      → Moves given (λ next. gain_element (setting_of given) type array index amount next) old from new to
+      → Measured given type array from n mid → test n ≡ true
+      → Moves given inner old mid new to
+      → Moves given (inside_array given type array test inner) old from new to
   unfolding Moves
   at_place old new from mid to n e m w h s next = inside old from mid n e m w s next ∙ h s next
 
   pub at_place_stops : {S : Type 0} (old : HashMap Resource Holding S) (from mid : Learned) (n : ℤ) (h : Halt) → (array ≡ 0 → ⊥)
-      → Measured given type array from n mid → within (pos 0) n index ≡ true
-      → Stops given (λ next. gain (setting_of given) type (InElement type array index) amount next) old mid h
-      → Stops given (λ next. gain_element (setting_of given) type array index amount next) old from h
+      → Measured given type array from n mid → test n ≡ true
+      → Stops given inner old mid h
+      → Stops given (inside_array given type array test inner) old from h
   unfolding Stops
   at_place_stops old from mid n h e m w k = ends_alike h _ _ (λ end g s next. inside old from mid n e m w s next ∙ g s next) k
 
   pub no_length : {S : Type 0} (old : HashMap Resource Holding S) (from to : Learned) (h : Halt) → (array ≡ 0 → ⊥)
       → Unmeasured given type array from h to
-      → Stops given (λ next. gain_element (setting_of given) type array index amount next) old from h
+      → Stops given (inside_array given type array test inner) old from h
   unfolding Stops EndsAt Unmeasured Halts
   no_length old from to (halt.Missing span) e k =
       let next : ℤ → Next Limited = λ z state picks. Ends Blocked in

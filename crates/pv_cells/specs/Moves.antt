@@ -6,7 +6,7 @@ use Rattle.pv_picks.specs.declared.evidence.Pick.{Pick}
 use Rattle.pv_picks.specs.Judge.Permissions.{give, give_range, has_room}
 use Rattle.pv_picks.specs.Judge.States as states
 use Rattle.pv_picks.specs.Judge.States.{State, with_range}
-use Rattle.pv_picks.specs.Judge.Settings.{Next, Setting}
+use Rattle.pv_picks.specs.Judge.Settings.{Next, Setting, unless_null, look_at_length}
 use Rattle.pv_picks.specs.Judge.Runs.{Blocked, Failed}
 use Rattle.pv_cells.specs.declared.halt.Halt.{Halt}
 use Rattle.pv_cells.specs.declared.halt.Halt.TheVariants as halt
@@ -67,3 +67,10 @@ abbrev pub filling : Prepared → PvType → ℕ → ℤ → ℤ → ℕ → Mov
 filling given type array low high amount next state =
     if has_room state type array low high amount then (setting_of given).steps state.steps type array
     (next (with_range state type array low high amount)) else (setting_of given).blocked
+
+-- inside an array that isn't null, where its length passes a test; elsewhere the run is blocked
+abbrev pub inside_array : Prepared → PvType → ℕ → (ℤ → Bool) → Move → Move
+inside_array given type array test inner next state =
+    unless_null (setting_of given) array (setting_of given).blocked
+    (look_at_length (setting_of given) type array
+    (λ n later. if test n then inner next later else (setting_of given).blocked) state)

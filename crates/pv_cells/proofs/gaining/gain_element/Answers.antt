@@ -12,11 +12,15 @@ use Rattle.pv_cells.proofs.gaining.gain_element.Goals as goal
 
 pub returns-then-array-eq0-clause-stops : goal.returns-then-array-eq0-clause-stops
 returns-then-array-eq0-clause-stops c =
-    at_null _ c.args.kind c.args.array c.args.index c.args.amount c.args.held.now c.args.learned.now c.if-array-eq0.true
+    at_null _ c.args.kind c.args.array (λ n. within (pos 0) n c.args.index)
+    (λ next. gain (setting_of c.args.given.now) c.args.kind
+    (InElement c.args.kind c.args.array c.args.index) c.args.amount next) c.args.held.now c.args.learned.now c.if-array-eq0.true
 
 pub returns-in_err-length-clause-stops : goal.returns-in_err-length-clause-stops
 returns-in_err-length-clause-stops c =
-    let unmeasured = λ (h : Halt). no_length c.args.given.now c.args.kind c.args.array c.args.index c.args.amount c.args.held.now
+    let unmeasured = λ (h : Halt). no_length c.args.given.now c.args.kind c.args.array (λ n. within (pos 0) n c.args.index)
+    (λ next. gain (setting_of c.args.given.now) c.args.kind
+    (InElement c.args.kind c.args.array c.args.index) c.args.amount next) c.args.held.now
         c.args.learned.now c.length_of.new.learned h c.if-array-eq0.false in
     search (rules, unmeasured)
 
@@ -25,7 +29,9 @@ returns-then-not-is_within-clause-stops c =
     let n : to_z w128 (of_z w128 c.in_ok-length.length) ≡ c.in_ok-length.length = search rules in
     let i : to_z w128 (of_z w128 c.args.index) ≡ c.args.index = search rules in
     let test : within (pos 0) c.in_ok-length.length c.args.index ≡ false = grind (arith, common_steps, n, i, c.is_within.ensures) in
-    outside _ c.args.kind c.args.array c.args.index c.args.amount c.args.held.now c.args.learned.now c.length_of.new.learned
+    outside _ c.args.kind c.args.array (λ n. within (pos 0) n c.args.index)
+    (λ next. gain (setting_of c.args.given.now) c.args.kind
+    (InElement c.args.kind c.args.array c.args.index) c.args.amount next) c.args.held.now c.args.learned.now c.length_of.new.learned
     c.in_ok-length.length c.if-array-eq0.false c.in_ok-length.ensures.goes test
 
 pub returns-clause-goes : goal.returns-clause-goes
@@ -36,7 +42,9 @@ returns-clause-goes c =
     let P : ℤ → Type 0 = λ z. Moves c.args.given.now (λ next. gain (setting_of c.args.given.now) c.args.kind
         (InElement c.args.kind c.args.array z) c.args.amount next) c.args.held.now c.length_of.new.learned c.gain.new.held
         c.gain.new.learned in
-    at_place _ c.args.kind c.args.array c.args.index c.args.amount c.args.held.now c.gain.new.held c.args.learned.now
+    at_place _ c.args.kind c.args.array (λ n. within (pos 0) n c.args.index)
+    (λ next. gain (setting_of c.args.given.now) c.args.kind
+    (InElement c.args.kind c.args.array c.args.index) c.args.amount next) c.args.held.now c.gain.new.held c.args.learned.now
     c.length_of.new.learned c.gain.new.learned c.in_ok-length.length c.if-array-eq0.false c.in_ok-length.ensures.goes
     test (subst P i c.in_ok-gain.ensures.goes)
 
@@ -49,7 +57,9 @@ returns-in_err-gain-clause-stops c =
         (InElement c.args.kind c.args.array z) c.args.amount next) c.args.held.now c.length_of.new.learned
         c.in_err-gain.field-0.0 in
     let stops =
-    at_place_stops c.args.given.now c.args.kind c.args.array c.args.index c.args.amount c.args.held.now
+    at_place_stops c.args.given.now c.args.kind c.args.array (λ n. within (pos 0) n c.args.index)
+    (λ next. gain (setting_of c.args.given.now) c.args.kind
+    (InElement c.args.kind c.args.array c.args.index) c.args.amount next) c.args.held.now
     c.args.learned.now c.length_of.new.learned c.in_ok-length.length c.in_err-gain.field-0.0 c.if-array-eq0.false
     c.in_ok-length.ensures.goes test (subst P i c.in_err-gain.ensures.stops) in
     search (rules, stops)
