@@ -1,8 +1,7 @@
 -- The elements of a range, changed one after the other.
-use Rattle.std.proofs.Common.{◌≡◌, ℕ, ℤ, pos, ◌+ℤ◌, ◌≤ℤ◌, ◌<ℤ◌, Bool, true, false, ◌&&◌, ◌⊎◌, inl, inr, if◌then◌else◌, Option, None, Some, refl, sym, ap, ◌∙◌, arith, rules}
+use Rattle.std.proofs.Common.{◌≡◌, ℕ, ℤ, pos, ◌+ℤ◌, ◌≤ℤ◌, Bool, true, false, ◌&&◌, ◌⊎◌, inl, inr, if◌then◌else◌, Option, None, Some, refl, sym, ap, ◌∙◌, arith, rules}
 use Rattle.std.specs.Prelude.{nat_eq, int_le, int_lt}
 use Rattle.std.proofs.lemmas.Int.{ints}
-use Rattle.std.proofs.lemmas.Grind.{common_steps}
 use Rattle.pv_values.specs.Heaps.{same_number}
 use Rattle.pv_ast.specs.declared.PvType.{PvType}
 use Rattle.pv_ast.specs.declared.PvType.TheVariants.{Int, Truth, Object, IntArray, TruthArray, Null}
@@ -68,7 +67,8 @@ among_other t a low i (InElement u b j) e = go (same_type u t) (nat_eq b a) e
 self_among : (t : PvType) (a : ℕ) (low i : ℤ) → low ≤ℤ i → is_among t a low (i +ℤ pos 1) (InElement t a i) ≡ true
 self_among t a low i l =
     let above : int_le low i ≡ true = search (rules, ints) in
-    all_hold (same_type t t) (nat_eq a a) (int_le low i) (int_lt i (i +ℤ pos 1)) (type_self t) (number_self a) above (just_below i)
+    all_hold (same_type t t) (nat_eq a a) (int_le low i) (int_lt i (i +ℤ pos 1)) (type_self t) (number_self a) above
+    (just_below i)
 
 not_yet : (t : PvType) (a : ℕ) (low i : ℤ) → is_among t a low i (InElement t a i) ≡ false
 not_yet t a low i = last_fails (same_type t t) (nat_eq a a) (int_le low i) (int_lt i i) (not_below i)

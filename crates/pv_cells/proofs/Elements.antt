@@ -1,8 +1,7 @@
 -- What a run does inside an array, behind a look at its length.
-use Rattle.std.proofs.Common.{◌≡◌, ℕ, ℤ, pos, Bool, true, false, if◌then◌else◌, List, refl, sym, ap, ◌∙◌, arith}
+use Rattle.std.proofs.Common.{◌≡◌, ℕ, ℤ, Bool, true, false, if◌then◌else◌, List, sym, ap, ◌∙◌}
 use Rattle.std.specs.Prelude.{nat_eq}
 use Rattle.std.specs.HashMap.{HashMap}
-use Rattle.pv_base.specs.declared.Span.{Span}
 use Rattle.pv_ast.specs.declared.PvType.{PvType}
 use Rattle.pv_picks.specs.declared.evidence.Pick.{Pick}
 use Rattle.pv_picks.specs.Judge.States.{State, empty_state}

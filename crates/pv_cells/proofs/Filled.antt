@@ -1,5 +1,5 @@
 -- Ranges that a run gains.
-use Rattle.std.proofs.Common.{◌≡◌, ℕ, suc, ℤ, ◌+◌, Bool, true, false, if◌then◌else◌, Option, List, refl, sym, ap, subst, ◌∙◌, arith}
+use Rattle.std.proofs.Common.{◌≡◌, ℕ, suc, ℤ, ◌+◌, Bool, true, false, if◌then◌else◌, Option, sym, ap, subst, ◌∙◌, arith}
 use Rattle.std.specs.Prelude.{nat_le}
 use Rattle.std.specs.HashMap.{HashMap}
 use Rattle.std.proofs.Math.Path.{fun_ext}
@@ -8,7 +8,6 @@ use Rattle.pv_ast.specs.declared.PvType.{PvType}
 use Rattle.pv_picks.specs.Formulas.Values.{width}
 use Rattle.pv_picks.specs.Judge.States as states
 use Rattle.pv_picks.specs.Judge.States.{State, InElement, FromSteps, holding, amount_held, cell_among, is_among, with_range}
-use Rattle.pv_picks.specs.Judge.Settings.{Next}
 use Rattle.pv_picks.specs.Judge.Permissions.{at_all}
 use Rattle.pv_picks.specs.Judge.Runs.{Blocked}
 use Rattle.pv_cells.specs.declared.halt.Halt.{Halt}
@@ -17,13 +16,14 @@ use Rattle.pv_cells.specs.declared.key.Resource.{Resource}
 use Rattle.pv_cells.specs.declared.prepared.Prepared.{Prepared}
 use Rattle.pv_cells.specs.declared.store.Holding.{Holding}
 use Rattle.pv_cells.specs.declared.store.Learned.{Learned}
-use Rattle.pv_cells.specs.Limits.{Limited, Ends, pick_steps}
-use Rattle.pv_cells.specs.Moves.{Moves, Stops, EndsAt, setting_of, standing, filling}
+use Rattle.pv_cells.specs.Limits.{Ends, pick_steps}
+use Rattle.pv_cells.specs.Moves.{Moves, Stops, EndsAt, standing, filling}
 use Rattle.pv_cells.specs.Picks.{IsSteps, NoSteps}
 use Rattle.pv_cells.specs.Prepared.{left}
 use Rattle.pv_cells.specs.Stores.{held_of, lengths_of, met_of}
 
-module _ {S : Type 0} (given : Prepared) (t : PvType) (a : ℕ) (low high first last : ℤ) (amount : ℕ) (old : HashMap Resource Holding S)
+module _ {S : Type 0} (given : Prepared) (t : PvType) (a : ℕ) (low high first last : ℤ) (amount : ℕ) (old : HashMap Resource
+    Holding S)
     (e : first ≡ low) (f : last ≡ high) where
   -- whether there is room at every position
   room_is : (b : Bool)
@@ -66,17 +66,18 @@ module _ {S : Type 0} (given : Prepared) (t : PvType) (a : ℕ) (low high first 
       → standing s new to ≡ with_range (standing s old from) t a low high amount
   filled s new from to put ls ms ss =
       let more : ℤ → states.Resource → Option states.Holding = λ z r. holding (amount_held (held_of old r) + amount)
-          (cell_among (held_of old r) (FromSteps t from.steps) r z) in
+      (cell_among (held_of old r) (FromSteps t from.steps) r z) in
       let now : states.Resource → Option states.Holding = λ r. if is_among t a low high r then more low r else held_of old r in
       let same : held_of new ≡ now =
-          fun_ext (λ r. put r
-          ∙ ap (λ z. if is_among t a z last r then more z r else held_of old r) e
-          ∙ ap (λ z. if is_among t a low z r then more low r else held_of old r) f) in
+      fun_ext (λ r. put r
+      ∙ ap (λ z. if is_among t a z last r then more z r else held_of old r) e
+      ∙ ap (λ z. if is_among t a low z r then more low r else held_of old r) f) in
       let next : suc from.steps ≡ from.steps + 1 = omega arith in
       ap (λ h. record s { held = h; lengths = lengths_of to.lengths; met = met_of to.met.items; steps = to.steps }) same
       ∙ ap (λ k. record s { held = now; lengths = lengths_of k; met = met_of to.met.items; steps = to.steps }) ls
       ∙ ap (λ k. record s { held = now; lengths = lengths_of from.lengths; met = met_of k.items; steps = to.steps }) ms
-      ∙ ap (λ k. record s { held = now; lengths = lengths_of from.lengths; met = met_of from.met.items; steps = k }) (ss ∙ sym next)
+      ∙ ap (λ k. record s { held = now; lengths = lengths_of from.lengths; met = met_of from.met.items; steps = k }) (ss
+      ∙ sym next)
 
   pub gained_range : (new : HashMap Resource Holding S) (from to : Learned)
       → at_all (λ i. nat_le (amount_held (held_of old (InElement t a i)) + amount) whole) first (width first last) ≡ true

@@ -1,5 +1,5 @@
 -- Permissions that a run gains.
-use Rattle.std.proofs.Common.{◌≡◌, ℕ, zero, suc, ◌+◌, Bool, true, false, if◌then◌else◌, Option, None, Some, List, refl, sym, ap, ◌∙◌, arith}
+use Rattle.std.proofs.Common.{◌≡◌, ℕ, zero, suc, ◌+◌, Bool, true, false, if◌then◌else◌, Option, List, refl, sym, ap, ◌∙◌, arith}
 use Rattle.std.specs.Prelude.{nat_eq, nat_le}
 use Rattle.std.specs.HashMap.{HashMap}
 use Rattle.std.proofs.Math.Path.{fun_ext}
@@ -100,13 +100,25 @@ unpicked given type r amount old from to (halt.Missing span) fits none k =
     let two = k s (λ other state picks. Overflows span) next in
     absurd (cc (sym one ∙ two))
 unpicked given type r amount old from to halt.Blocked fits none k = λ s next.
-    enough given type r amount 0 next old from s fits none ∙ k (record s { held = held_of old }) (λ span state picks. Ends Blocked) _
+    enough given type r amount 0 next old from s fits none ∙ k (record s {
+      held =
+          held_of old;
+    }) (λ span state picks. Ends Blocked) _
 unpicked given type r amount old from to (halt.Failed check span) fits none k = λ s next.
-    enough given type r amount 0 next old from s fits none ∙ k (record s { held = held_of old }) (λ span state picks. Ends Blocked) _
+    enough given type r amount 0 next old from s fits none ∙ k (record s {
+      held =
+          held_of old;
+    }) (λ span state picks. Ends Blocked) _
 unpicked given type r amount old from to (halt.Overflow span) fits none k = λ s next.
-    enough given type r amount 0 next old from s fits none ∙ k (record s { held = held_of old }) (λ span state picks. Ends Blocked) _
+    enough given type r amount 0 next old from s fits none ∙ k (record s {
+      held =
+          held_of old;
+    }) (λ span state picks. Ends Blocked) _
 unpicked given type r amount old from to (halt.RangeTooLong n) fits none k = λ s next.
-    enough given type r amount 0 next old from s fits none ∙ k (record s { held = held_of old }) (λ span state picks. Ends Blocked) _
+    enough given type r amount 0 next old from s fits none ∙ k (record s {
+      held =
+          held_of old;
+    }) (λ span state picks. Ends Blocked) _
 unpicked given type r amount old from to halt.NoMemory fits none k = tt
 
 -- Fields
@@ -123,9 +135,11 @@ by_null : (given : Prepared) (class : Name) (object : ℕ) (name : Name) (type :
     → gain_field (setting_of given) class object name type amount next s picks
     ≡ (if b then Ends Blocked else gain (setting_of given) type (InField class object name) amount next s picks)
 by_null given class object name type amount next s picks true e =
-    ap (λ b. (if b then (setting_of given).blocked else gain (setting_of given) type (InField class object name) amount next s) picks) e
+    ap (λ b. (if b then (setting_of given).blocked else gain (setting_of given) type (InField class object name) amount next s)
+    picks) e
 by_null given class object name type amount next s picks false e =
-    ap (λ b. (if b then (setting_of given).blocked else gain (setting_of given) type (InField class object name) amount next s) picks) e
+    ap (λ b. (if b then (setting_of given).blocked else gain (setting_of given) type (InField class object name) amount next s)
+    picks) e
 
 pub at_null : {S : Type 0} (given : Prepared) (class : Name) (object : ℕ) (name : Name) (type : PvType) (amount : ℕ)
     (held : HashMap Resource Holding S) (l : Learned) → object ≡ 0
@@ -149,7 +163,8 @@ pub at_object_stops : {S : Type 0} (given : Prepared) (class : Name) (object : �
 unfolding Stops
 at_object_stops given class object name type amount old from h e k =
     ends_alike h _ _ (λ end g s next.
-    by_null given class object name type amount next (standing s old from) (left given from) false (not_null object e) ∙ g s next) k
+    by_null given class object name type amount next (standing s old from) (left given from) false (not_null object e)
+    ∙ g s next) k
 
 -- What is held whole
 

@@ -1,5 +1,5 @@
 -- Permissions that a run gives up.
-use Rattle.std.proofs.Common.{◌≡◌, ℕ, ℤ, subst, ◌+◌, ◌-◌, ◌<◌, Bool, true, false, if◌then◌else◌, Option, List, refl, sym, ap, ◌∙◌, arith}
+use Rattle.std.proofs.Common.{◌≡◌, ℕ, ℤ, subst, ◌-◌, Bool, true, false, if◌then◌else◌, Option, sym, ap, ◌∙◌}
 use Rattle.std.specs.Prelude.{nat_le}
 use Rattle.std.specs.HashMap.{HashMap}
 use Rattle.std.proofs.Math.Path.{fun_ext}
@@ -10,7 +10,7 @@ use Rattle.pv_picks.specs.Judge.States as states
 use Rattle.pv_picks.specs.Judge.States.{at_resource, holding, amount_held, cell_held, with_amount, with_holding, InElement, is_among, without_range}
 use Rattle.pv_cells.specs.declared.key.Resource.{Resource}
 use Rattle.pv_cells.specs.declared.store.Holding.{Holding}
-use Rattle.pv_cells.specs.Moves.{Gives, GivesRange, setting_of, standing}
+use Rattle.pv_cells.specs.Moves.{Gives, GivesRange, standing}
 use Rattle.pv_cells.specs.Prepared.{left}
 use Rattle.pv_cells.specs.Stores.{held_of}
 use Rattle.pv_cells.proofs.Gains.{standing_put}
@@ -19,7 +19,8 @@ pub short : {S : Type 0} (r : states.Resource) (amount : ℕ) (held : HashMap Re
     → nat_le amount (amount_held (held_of held r)) ≡ false → Gives r amount held false held
 unfolding Gives
 short r amount held e given l s stop next =
-    ap (λ b. (if b then next (with_amount (standing s held l) r (amount_held (held_of held r) - amount)) else stop) (left given l)) e
+    ap (λ b. (if b then next (with_amount (standing s held l) r (amount_held (held_of held r) - amount)) else stop) (left given
+    l)) e
 
 pub given_up : {S : Type 0} (r : states.Resource) (amount there : ℕ) (c : states.Cell) (old new : HashMap Resource Holding S)
     → nat_le amount (amount_held (held_of old r)) ≡ true → there ≡ amount_held (held_of old r) → c ≡ cell_held (held_of old r)
@@ -27,8 +28,10 @@ pub given_up : {S : Type 0} (r : states.Resource) (amount there : ℕ) (c : stat
     → Gives r amount old true new
 unfolding Gives
 given_up r amount there c old new e is cell put given l s stop next =
-    ap (λ b. (if b then next (with_amount (standing s old l) r (amount_held (held_of old r) - amount)) else stop) (left given l)) e
-    ∙ ap (λ n. next (with_holding (standing s old l) r (holding (n - amount) (cell_held (held_of old r)))) (left given l)) (sym is)
+    ap (λ b. (if b then next (with_amount (standing s old l) r (amount_held (held_of old r) - amount)) else stop) (left given
+    l)) e
+    ∙ ap (λ n. next (with_holding (standing s old l) r (holding (n - amount) (cell_held (held_of old r)))) (left given l)) (sym
+    is)
     ∙ ap (λ k. next (with_holding (standing s old l) r (holding (there - amount) k)) (left given l)) (sym cell)
     ∙ ap (λ t. next t (left given l)) (sym (standing_put s old new l r (holding (there - amount) c) put))
 
@@ -59,11 +62,11 @@ given_range t a low high first last amount old new e f is put given l s ends sto
     let P : ℤ → Type 0 = λ z. at_all test z (width z high) ≡ true in
     let Q : ℤ → Type 0 = λ z. at_all test first (width first z) ≡ true in
     let less : states.Resource → Option states.Holding = λ r. holding (amount_held (held_of old r) - amount)
-        (cell_held (held_of old r)) in
+    (cell_held (held_of old r)) in
     let same : held_of new ≡ (λ r. if is_among t a low high r then less r else held_of old r) =
-        fun_ext (λ r. put r
-        ∙ ap (λ z. if is_among t a z last r then less r else held_of old r) e
-        ∙ ap (λ z. if is_among t a low z r then less r else held_of old r) f) in
+    fun_ext (λ r. put r
+    ∙ ap (λ z. if is_among t a z last r then less r else held_of old r) e
+    ∙ ap (λ z. if is_among t a low z r then less r else held_of old r) f) in
     ap (λ b. (if b then next (without_range (standing s old l) t a low high amount) else stop) (left given l))
     (subst P e (subst Q f is))
     ∙ ap (λ h. next (record (standing s old l) { held = h }) (left given l)) (sym same)

@@ -94,7 +94,8 @@ tokens_alike Uncommitted Uncommitted = refl
 both : {a b c d : Bool} → a ≡ c → b ≡ d → (a && b) ≡ (c && d)
 both {a} {b} {c} {d} e f = ap (λ x. x && b) e ∙ ap (λ y. c && y) f
 
-pub arrays_same : (t : PvType) (a : ℕ) (u : PvType) (b : ℕ) → is_array (array_key t a) (array_key u b) ≡ (same_type u t && nat_eq b a)
+pub arrays_same : (t : PvType) (a : ℕ) (u : PvType) (b : ℕ) → is_array (array_key t a) (array_key u b)
+    ≡ (same_type u t && nat_eq b a)
 arrays_same t a u b = both (types_alike t u) (alike_flip a b)
 
 pub keys_same : (k : Resource) (r : states.Resource) → is_resource k (key_of r) ≡ same_resource r (resource_of k)

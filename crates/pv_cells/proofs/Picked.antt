@@ -1,5 +1,5 @@
 -- Values that are picked.
-use Rattle.std.proofs.Common.{◌≡◌, ℕ, ℤ, pos, negsuc, Bool, true, false, List, [], ◌∷◌, ◌++◌, refl, sym, ap, ◌∙◌, arith, drop}
+use Rattle.std.proofs.Common.{◌≡◌, ℕ, ℤ, pos, negsuc, true, false, List, [], ◌∷◌, ◌++◌, refl, sym, ap, ◌∙◌, arith, drop}
 use Rattle.std.specs.Prelude.{int_le}
 use Rattle.pv_ast.specs.declared.PvType.{PvType}
 use Rattle.pv_ast.specs.declared.PvType.TheVariants.{Int, Truth, Object, IntArray, TruthArray, Null}
@@ -16,7 +16,7 @@ use Rattle.pv_cells.specs.declared.store.Learned.{Learned}
 use Rattle.pv_cells.specs.declared.store.Met.{Met}
 use Rattle.pv_cells.specs.Limits.{Limited, Ends, limiting, pick_number}
 use Rattle.pv_cells.specs.Parts.{Goes, Halts}
-use Rattle.pv_cells.specs.Picks.{IsNumber, NoNumber, Picked, Unpicked, refers, pick_part}
+use Rattle.pv_cells.specs.Picks.{IsNumber, NoNumber, Picked, Unpicked, refers}
 use Rattle.pv_cells.specs.Prepared.{maps_of, table_of, left}
 use Rattle.pv_cells.specs.Stores.{with_learned, lengths_of, met_of}
 

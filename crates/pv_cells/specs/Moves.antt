@@ -2,7 +2,6 @@
 use Rattle.std.specs.Prelude.{◌≡◌, ℕ, ℤ, Bool, if◌then◌else◌, List}
 use Rattle.std.specs.HashMap.{HashMap}
 use Rattle.pv_ast.specs.declared.PvType.{PvType}
-use Rattle.pv_picks.specs.declared.evidence.Pick.{Pick}
 use Rattle.pv_picks.specs.Judge.Permissions.{give, give_range, has_room}
 use Rattle.pv_picks.specs.Judge.States as states
 use Rattle.pv_picks.specs.Judge.States.{State, with_range}
@@ -49,7 +48,8 @@ Stops given move held from halt = EndsAt halt
     (λ end. (s : State) (next : Next Limited) → move next (standing s held from) (left given from) ≡ end)
 
 -- an amount is given up, where so much is there; where it isn't, all stays
-unfoldable pub Gives : {S : Type 0} → states.Resource → ℕ → HashMap Resource Holding S → Bool → HashMap Resource Holding S → Type 0
+unfoldable pub Gives : {S : Type 0} → states.Resource → ℕ → HashMap Resource Holding S → Bool → HashMap Resource Holding S
+    → Type 0
 Gives r amount held enough now = (given : Prepared) (l : Learned) (s : State) (short : Limited) (next : Next Limited)
     → give (setting_of given) r amount short next (standing s held l) (left given l)
     ≡ (if enough then next (standing s now l) else short) (left given l)

@@ -15,7 +15,8 @@ Part A = (Span → Next Limited) → (A → Next Limited) → Next Limited
 
 -- it goes on with a value, from another state and with fewer picks
 unfoldable pub Goes : {A : Type 0} → Part A → State → List Pick → A → State → List Pick → Type 0
-Goes {A} part s picks a t left = (missing : Span → Next Limited) (next : A → Next Limited) → part missing next s picks ≡ next a t left
+Goes {A} part s picks a t left = (missing : Span → Next Limited) (next : A → Next Limited) → part missing next s picks
+    ≡ next a t left
 
 -- it doesn't
 unfoldable pub Halts : {A : Type 0} → Part A → State → List Pick → Halt → State → List Pick → Type 0

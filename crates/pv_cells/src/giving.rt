@@ -7,7 +7,6 @@ ghost use Rattle.pv_cells.specs.Moves.{Gives, GivesRange};
 use crate::holdings::{holding_at, put};
 use crate::key::Resource;
 use crate::ranging::{has_each, take_each};
-
 use crate::store::{Held, Holding};
 use pv_ast::PvType;
 use pv_base::NoMemory;

@@ -14,7 +14,11 @@ use pv_values::Value;
 /// The next pick, as a value of the type. A reference is met. Blocked where a pick is missing or of another kind, or a negative
 /// number stands in the place of a reference.
 #[tactic(auto, using(crate::proofs::Picked::number_picked, crate::proofs::Picked::truth_picked, crate::proofs::Picked::none_picked, crate::proofs::Picked::null_picked))]
-pub(crate) fn pick_value(given: &Prepared, learned: &mut Learned, kind: PvType) -> Result<Value, Halt>
+pub(crate) fn pick_value(
+    given: &Prepared,
+    learned: &mut Learned,
+    kind: PvType,
+) -> Result<Value, Halt>
     ensures goes { IfOk result (λ v. Picked given.now kind learned.old v learned.new) }
     ensures stops { IfErr result (λ halt. Unpicked given.now kind learned.old halt learned.new) }
 {

@@ -16,7 +16,14 @@ use pv_base::NoMemory;
 
 /// Whether each element from the first index to below the second is held in so great an amount.
 #[tactic(auto, using(crate::proofs::Widths::none_left))]
-pub(crate) fn has_each(kind: PvType, array: u128, low: i128, high: i128, amount: u64, held: &Held) -> bool
+pub(crate) fn has_each(
+    kind: PvType,
+    array: u128,
+    low: i128,
+    high: i128,
+    amount: u64,
+    held: &Held,
+) -> bool
     ensures { result ≡ at_all (λ i. nat_le amount (states.amount_held (held_of held.now (states.InElement kind array i)))) low (width low high) }
 {
     for index in low..high {
@@ -29,7 +36,14 @@ pub(crate) fn has_each(kind: PvType, array: u128, low: i128, high: i128, amount:
 
 /// Whether each element from the first index to below the second has room for so much more.
 #[tactic(auto, using(crate::proofs::Widths::none_left))]
-pub(crate) fn has_room(kind: PvType, array: u128, low: i128, high: i128, amount: u64, held: &Held) -> bool
+pub(crate) fn has_room(
+    kind: PvType,
+    array: u128,
+    low: i128,
+    high: i128,
+    amount: u64,
+    held: &Held,
+) -> bool
     ensures { result ≡ at_all (λ i. nat_le (states.amount_held (held_of held.now (states.InElement kind array i)) + amount) whole) low (width low high) }
 {
     for index in low..high {
@@ -51,7 +65,10 @@ fn has(kind: PvType, array: u128, index: i128, amount: u64, held: &Held) -> bool
 fn has_room_at(kind: PvType, array: u128, index: i128, amount: u64, held: &Held) -> bool
     ensures { result ≡ nat_le (states.amount_held (held_of held.now (states.InElement kind array index)) + amount) whole }
 {
-    fits_with(holding_at(held, Resource::Element(kind, array, index)).amount, amount)
+    fits_with(
+        holding_at(held, Resource::Element(kind, array, index)).amount,
+        amount,
+    )
 }
 
 /// So much less of each element from the first index to below the second; of one that has less nothing is left.

@@ -1,5 +1,5 @@
 -- What gaining a range comes to.
-use Rattle.std.proofs.Common.{◌≡◌, ◌∙◌, sym, ℤ, to_z, of_z, rules}
+use Rattle.std.proofs.Common.{◌≡◌, ◌∙◌, sym, to_z, of_z, rules}
 use mir.Syntax.{w128}
 use Rattle.pv_cells.specs.declared.halt.Halt.{Halt}
 use Rattle.pv_cells.proofs.Filled.{no_room, no_steps, gained_range}
@@ -17,8 +17,8 @@ returns-in_err-take_steps-clause-stops c =
     let low : to_z w128 (of_z w128 c.args.low) ≡ c.args.low = search rules in
     let high : to_z w128 (of_z w128 c.args.high) ≡ c.args.high = search rules in
     let stops = λ (h : Halt). no_steps c.args.given.now c.args.kind c.args.array c.args.low c.args.high
-        (to_z w128 (of_z w128 c.args.low)) (to_z w128 (of_z w128 c.args.high)) c.args.amount c.args.held.now low high
-        c.args.learned.now h (sym c.has_room.ensures ∙ c.if-not-has_room.false) in
+    (to_z w128 (of_z w128 c.args.low)) (to_z w128 (of_z w128 c.args.high)) c.args.amount c.args.held.now low high
+    c.args.learned.now h (sym c.has_room.ensures ∙ c.if-not-has_room.false) in
     search (rules, stops)
 
 pub returns-clause-goes : goal.returns-clause-goes

@@ -1,5 +1,5 @@
 -- It is there already, or is added.
-use Rattle.std.proofs.Common.{◌≡◌, ℕ, arith}
+use Rattle.std.proofs.Common.{◌≡◌, arith}
 use Rattle.std.proofs.lemmas.Grind.{common_steps}
 use Rattle.pv_picks.specs.Judge.States.{amount_held}
 use Rattle.pv_cells.specs.Keys.{resource_of}

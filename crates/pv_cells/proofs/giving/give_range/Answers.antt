@@ -1,5 +1,5 @@
 -- So much was there of each, or it wasn't.
-use Rattle.std.proofs.Common.{◌≡◌, ◌∙◌, sym, ℤ, to_z, of_z, rules}
+use Rattle.std.proofs.Common.{◌≡◌, ◌∙◌, sym, to_z, of_z, rules}
 use mir.Syntax.{w128}
 use Rattle.pv_cells.proofs.Given.{short_range, given_range}
 use Rattle.pv_cells.proofs.giving.give_range.Goals as goal

@@ -1,6 +1,5 @@
 -- A reference that is picked, and a number that is none.
-use Rattle.std.proofs.Common.{◌≡◌, ◌∙◌, refl, ap, rules, to_z, of_z, arith, true, false, pos, List, [], ◌∷◌, ◌++◌}
-use Rattle.std.proofs.lemmas.Grind.{common_steps}
+use Rattle.std.proofs.Common.{◌≡◌, ◌∙◌, refl, ap, rules, to_z, of_z, arith, false, pos, List, [], ◌∷◌, ◌++◌}
 use Rattle.std.specs.Prelude.{int_le}
 use lib.IntN.{nat_abs}
 use mir.Syntax.{w128}

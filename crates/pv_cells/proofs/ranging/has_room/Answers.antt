@@ -1,5 +1,5 @@
 -- One element fails, or the rest decides.
-use Rattle.std.proofs.Common.{◌≡◌, ◌∙◌, ◌+◌, ◌+ℤ◌, sym, ap, pos, ℕ, ℤ, Bool, true, false, ◌<ℤ◌, to_z, of_z, rules, arith}
+use Rattle.std.proofs.Common.{◌≡◌, ◌∙◌, ◌+◌, ◌+ℤ◌, sym, pos, ℤ, Bool, to_z, of_z, rules}
 use Rattle.std.specs.Prelude.{nat_le}
 use Rattle.std.proofs.lemmas.Int.{ints}
 use mir.Syntax.{w128}
@@ -11,7 +11,8 @@ use Rattle.pv_cells.proofs.ranging.has_room.Goals as goal
 
 pub returns-then-not-has_room_at : goal.returns-then-not-has_room_at
 returns-then-not-has_room_at c =
-    let test : ℤ → Bool = λ i. nat_le (states.amount_held (held_of c.args.held.now (states.InElement c.args.kind c.args.array i)) + c.args.amount) whole in
+    let test : ℤ → Bool = λ i. nat_le (states.amount_held (held_of c.args.held.now (states.InElement c.args.kind c.args.array
+    i)) + c.args.amount) whole in
     let i : ℤ = to_z w128 c.loop-index.index-bits in
     let low : to_z w128 (of_z w128 c.args.low) ≡ c.args.low = search rules in
     let high : to_z w128 (of_z w128 c.args.high) ≡ c.args.high = search rules in
@@ -20,7 +21,8 @@ returns-then-not-has_room_at c =
 
 pub loop-index-preserved : goal.loop-index-preserved
 loop-index-preserved c =
-    let test : ℤ → Bool = λ i. nat_le (states.amount_held (held_of c.args.held.now (states.InElement c.args.kind c.args.array i)) + c.args.amount) whole in
+    let test : ℤ → Bool = λ i. nat_le (states.amount_held (held_of c.args.held.now (states.InElement c.args.kind c.args.array
+    i)) + c.args.amount) whole in
     let i : ℤ = to_z w128 c.loop-index.index-bits in
     let next : to_z w128 (of_z w128 (i +ℤ pos 1)) ≡ (i +ℤ pos 1) = search (rules, ints) in
     passes_in test (to_z w128 (of_z w128 c.args.low)) (to_z w128 (of_z w128 c.args.high)) i (to_z w128 (of_z w128 (i +ℤ pos 1)))

@@ -1,5 +1,5 @@
 -- One element more has less; at the end all have.
-use Rattle.std.proofs.Common.{◌≡◌, ◌∙◌, ◌+ℤ◌, ◌-◌, ◌≤ℤ◌, sym, ap, refl, subst, pos, ℕ, ℤ, Option, inl, inr, if◌then◌else◌, to_z, of_z, rules, arith}
+use Rattle.std.proofs.Common.{◌≡◌, ◌∙◌, ◌+ℤ◌, ◌-◌, ◌≤ℤ◌, sym, ap, subst, pos, ℤ, Option, inr, if◌then◌else◌, to_z, of_z, rules}
 use Rattle.std.proofs.lemmas.Int.{ints}
 use mir.Syntax.{w128}
 use Rattle.pv_picks.specs.Judge.States as states
@@ -13,7 +13,7 @@ loop-index-preserved c =
     let first : ℤ = to_z w128 (of_z w128 c.args.low) in
     let next : to_z w128 (of_z w128 (i +ℤ pos 1)) ≡ (i +ℤ pos 1) = search (rules, ints) in
     let less : states.Resource → Option states.Holding = λ r. states.holding
-        (states.amount_held (held_of c.args.held.now r) - c.args.amount) (states.cell_held (held_of c.args.held.now r)) in
+    (states.amount_held (held_of c.args.held.now r) - c.args.amount) (states.cell_held (held_of c.args.held.now r)) in
     let last : ℤ = to_z w128 (of_z w128 c.args.high) in
     let here : Option states.Holding = held_of c.loop-index.held (states.InElement c.args.kind c.args.array i) in
     let more =
@@ -22,7 +22,7 @@ loop-index-preserved c =
     c.loop-index.invariant.0 c.loop-index.invariant.2
     (λ same. ap (λ h. states.holding (states.amount_held h - c.args.amount) (states.cell_held h)) same) c.in_ok-take.ensures in
     let P : ℤ → Type 0 = λ z. (r : states.Resource) → held_of c.take.new.held r
-        ≡ (if states.is_among c.args.kind c.args.array first z r then less r else held_of c.args.held.now r) in
+    ≡ (if states.is_among c.args.kind c.args.array first z r then less r else held_of c.args.held.now r) in
     let Q : ℤ → Type 0 = λ z. first ≤ℤ z in
     let U : ℤ → Type 0 = λ z. z ≤ℤ last in
     let from : first ≤ℤ i = c.loop-index.invariant.0 in

@@ -5,7 +5,8 @@ use Rattle.pv_cells.specs.Stores.{held_of}
 use Rattle.pv_cells.proofs.ranging.take_each.Given as goal
 
 abbrev pub invariant-loop-index : goal.invariant-loop-index
-invariant-loop-index l = (l.fn.low ≤ℤ l.index) × ((l.index ≡ l.fn.low) ⊎ (l.index ≤ℤ l.fn.high)) × ((r : states.Resource) → held_of l.held r
+invariant-loop-index l = (l.fn.low ≤ℤ l.index) × ((l.index ≡ l.fn.low) ⊎ (l.index ≤ℤ l.fn.high)) × ((r : states.Resource)
+    → held_of l.held r
     ≡ (if states.is_among l.kind l.array l.fn.low l.index r
     then states.holding (states.amount_held (held_of l.fn.held r) - l.amount) (states.cell_held (held_of l.fn.held r))
     else held_of l.fn.held r))
