@@ -40,8 +40,8 @@ stops_then part more s t u p q r a halt.NoMemory g k = tt
 
 -- what comes behind a test that fails
 pub halts_if : {A : Type 0} (h : Halt) (other : Part A) (part : Part A) (b : Bool) (s t : State) (p q : List Pick) → b ≡ false
-    → Halts part s p h t q → Halts (λ missing next state. if b then other missing next state else part missing next state) s
-        p h t q
+    → Halts part s p h t q → Halts (λ missing next state. if b then other missing next state else part missing next state) s p
+    h t q
 unfolding Halts
 halts_if h other part true s t p q e k = absurd (cc e)
 halts_if h other part false s t p q e k = k

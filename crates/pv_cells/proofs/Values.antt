@@ -158,7 +158,7 @@ module _ (given : Prepared) (around : Surroundings) where
       (reference_in o) (λ z. next (value.Number z)) in
       stops_then (value_part given cells around.old around.scene e) _ _ _ _ _ _ _ o h (g cells s r)
       (halts_if h _ measured _ _ _ _ _ apart (stops_first (length_part given type (reference_in o)) (λ n missing next. next
-          (value.Number n)) _ _ _ _ h (u s)))
+      (value.Number n)) _ _ _ _ h (u s)))
 
   -- Operations
 
@@ -170,8 +170,8 @@ module _ (given : Prepared) (around : Surroundings) where
   pub opposite_stops : (e : Expression) (from to : Learned) (h : Halt) → Unvalued given around e from h to
       → Unvalued given around (Not e) from h to
   unfolding Unvalued
-  opposite_stops e from to h u cells s r = stops_first (value_part given cells around.old around.scene e) _ _ _ _ _ h (u
-      cells s r)
+  opposite_stops e from to h u cells s r = stops_first (value_part given cells around.old around.scene e) _ _ _ _ _ h (u cells
+      s r)
 
   pub computed_is : (m : Manner) (o : Operation) (a b : Expression) (span : Span) (from mid to : Learned) (x y : Value) (z : ℤ)
       → Valued given around a from x mid → Valued given around b mid y to
@@ -195,17 +195,17 @@ module _ (given : Prepared) (around : Surroundings) where
       → Unvalued given around (Compute m o a b span) from h to
   unfolding Valued Goes Unvalued
   overflows_at Plain o a b span from mid to x y h is g k beyond cells s r =
-      rw is (overflow_halts (value_part given cells around.old around.scene (Compute Plain o a b span)) _ _ _ _ span (λ
-          missing next.
+      rw is (overflow_halts (value_part given cells around.old around.scene (Compute Plain o a b span)) _ _ _ _ span (λ missing
+      next.
       g cells s r missing _ ∙ k cells s r missing _
       ∙ ap (λ b. (if b then next (value.Number (arithmetic o (number_in x) (number_in y))) (with_learned s to)
       else λ picks. Overflows span) (left given to)) beyond))
   overflows_at Tabled o a b span from mid to x y h is g k beyond cells s r =
       rw is (overflow_halts (value_part given cells around.old around.scene (Compute Tabled o a b span)) _ _ _ _ span (λ
-          missing next.
+      missing next.
       g cells s r missing _ ∙ k cells s r missing _
       ∙ ap (λ b. (if b then next (value.Number (value_of_operation (table_of given) o (number_in x) (number_in y)))
-          (with_learned s to)
+      (with_learned s to)
       else λ picks. Overflows span) (left given to)) beyond))
 
   -- an operation stops with its operands

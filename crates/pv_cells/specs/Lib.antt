@@ -1,5 +1,6 @@
 pub mod Keys
 pub mod Limits
+pub mod Moves
 pub mod Numbers
 pub mod Parts
 pub mod Picks

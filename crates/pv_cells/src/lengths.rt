@@ -14,7 +14,7 @@ use pv_ast::PvType;
 use pv_picks::Pick;
 
 /// The next pick, which must be a number: blocked where there is none, or one of another kind.
-#[tactic(auto, using(crate::proofs::Picking::number_left, crate::proofs::Picking::turn_left, crate::proofs::Picking::steps_left, crate::proofs::Picking::none_left))]
+#[tactic(auto, using(crate::proofs::PicksLeft::number_left, crate::proofs::PicksLeft::turn_left, crate::proofs::PicksLeft::steps_left, crate::proofs::PicksLeft::none_left))]
 pub(crate) fn take_number(given: &Prepared, learned: &mut Learned) -> Result<i128, Halt>
     ensures taken { IfOk result (λ z. IsNumber (left given.now learned.old) z (left given.now learned.new)) }
     ensures lengths { learned.new.lengths ≡ learned.old.lengths }

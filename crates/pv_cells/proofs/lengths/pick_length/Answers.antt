@@ -19,4 +19,4 @@ returns-clause-goes c =
     (picked_length _ _ _ c.args.learned.now c.take_number.new.learned _ c.in_ok-n.n c.requires c.in_ok-n.ensures.taken above
     (λ t a. more_lengths c.args.learned.now.lengths c.take_number.new.learned.lengths c.insert.new.self c.args.key.kind
     c.args.key.array c.in_ok-n.n _ t a c.take_number.ensures.lengths same (c.in_ok-insert.ensures.updates.0 (array_key t a)))
-        c.take_number.ensures.met c.take_number.ensures.steps refl)
+    c.take_number.ensures.met c.take_number.ensures.steps refl)

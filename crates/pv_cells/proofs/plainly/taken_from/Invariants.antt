@@ -7,4 +7,4 @@ use Rattle.pv_cells.proofs.plainly.taken_from.Given as goal
 abbrev pub invariant-loop-entry : goal.invariant-loop-entry
 invariant-loop-entry l =
     taken_from (drop l.entry-index l.table) (operation_of l.operation) l.a l.b
-        ≡ taken_from l.table (operation_of l.operation) l.a l.b
+    ≡ taken_from l.table (operation_of l.operation) l.a l.b

@@ -14,7 +14,7 @@ compared-returns-clause-goes t c =
     let same : c.compare.result ≡ comparison (comparison_of c.args.order) (number_in c.in_ok-x.x) (number_in c.in_ok-y.y) =
     c.compare.ensures ∙ rw left (rw right (rw c.number.ensures (rw c.number-2.ensures refl))) in
     rw same (compared_is _ _ (comparison_of c.args.order) _ _ _ _ _ c.in_ok-x.x c.in_ok-y.y c.in_ok-x.ensures.goes
-        c.in_ok-y.ensures.goes)
+    c.in_ok-y.ensures.goes)
 
 pub value-returns-in-Constant-clause-goes : goal.value-returns-in-Constant-clause-goes
 value-returns-in-Constant-clause-goes t c = rw c.in-Constant.is
