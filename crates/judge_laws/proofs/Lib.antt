@@ -12,7 +12,7 @@ pub mod Backing
 pub mod Lookups
 pub mod Judging
 mod Together
-pub mod Picking
+mod Picking
 pub mod Numbers
 pub mod Remembering
 pub mod Making
