@@ -60,7 +60,7 @@ fact_formula e x y o h within a v f =
 not_fact : (e x y : Expr) (o : Operator) → e.kind ≡ tree.Binary o x y → (within : Option Span) (a : Environment)
     (v : Visible) → is_fact within o ((shape_of e).facts 0).pure ≡ false
     → (elaborated_expression e).formula within a v ≡ joined o within e.span (elaborated_expression x) (elaborated_expression
-        y) a v
+    y) a v
 not_fact e x y o h within a v f =
     binary_formula e x y o h within a v ∙ ap (λ b. operator_formula b e x y o within a v) f
 
@@ -152,7 +152,7 @@ pub token_formula : (e x : Expr) (t : Token) → e.kind ≡ tree.Token t x → (
 token_formula e x t h within a v =
     formula_shown e (ExprKind-F.Token t x) (tree.Token t x) h (tree.rolls-Token t x) within a v
     ∙ ap (λ (p : CheckedExpression). core.Holds t (class_at (typing_in p a v)) (core_of_expression a v x) (conjunct within
-        e.span))
+    e.span))
     (checked_in_elaborated x)
 
 -- arguments one by one
@@ -374,7 +374,7 @@ token_item token.Uncommitted x span name within a v h = refl
 committed_token : (t : Token) (x : Expr) (span : Span) (name : Name) (within : Option Span) (a : Environment) (v : Visible)
     → commits t ≡ true → item_in_kind (layer_of (ExprKind-F.Token t x)) span name within a v
     ≡ core.Committed (class_at (typing_in (elaborated_expression x).checked a v)) (core_of_expression a v x) (conjunct within
-        span)
+    span)
 committed_token token.Idle x span name within a v h = absurd cc
 committed_token token.Running x span name within a v h = absurd cc
 committed_token token.Committed x span name within a v h = refl
@@ -403,7 +403,7 @@ item_layer : (l : ExprKind-F ExprKind Each Expr) → ((o : Operator) (x y : Expr
     → ((t : Token) (x : Expr) → l ≡ ExprKind-F.Token t x → ⊥)
     → (span : Span) (name : Name) (within : Option Span) (a : Environment) (v : Visible)
     → item_in_kind (layer_of l) span name within a v ≡ core.Repeated (expression_in_kind (layer_of l) span a v) (conjunct
-        within span)
+    within span)
 item_layer (ExprKind-F.Binary o x y) b p t span name within a v = absurd (b o x y refl)
 item_layer (ExprKind-F.Perm x m n s) b p t span name within a v = absurd (p x m n s refl)
 item_layer (ExprKind-F.Token k x) b p t span name within a v = absurd (t k x refl)

@@ -66,7 +66,8 @@ rest_new known known' x names h more =
     (filter (λ n. not (known n)) (filter (λ n. not (same_name x n)) (once names)))) h
     ∙ ap (λ l. x ∷ l) (filter_filter (λ n. not (known n)) (λ n. not (same_name x n)) (once names)
     ∙ filter_same (λ n. not (same_name x n) && not (known n)) (λ n. not (known' n))
-    (λ n. ap (λ b. not b && not (known n)) (same_sym x n) ∙ neither (same_name n x) (known n) ∙ ap not (sym (more n))) (once names))
+    (λ n. ap (λ b. not b && not (known n)) (same_sym x n) ∙ neither (same_name n x) (known n) ∙ ap not (sym (more n))) (once
+    names))
 
 -- the variables among the names that are left
 abbrev pub variables_left : Visible → (Name → Bool) → List Name → List Parameter

@@ -23,7 +23,6 @@ use Rattle.core_trees.proofs.StmtLayers.{layer_of, stmt_shown, stmt_rolled, kind
 unrolled_stmt : (k : StmtKind) (l : StmtKind-F StmtKind Stmt) → out-StmtKind k ≡ l → k ≡ roll-StmtKind l
 unrolled_stmt k l i = sym (roll-out-StmtKind k) ∙ ap roll-StmtKind i
 
-
 assigns_none_layer : (l : StmtKind-F StmtKind Stmt)
     → ((e : Expr) (r : Right) → l ≡ StmtKind-F.Assign e r → ⊥)
     → ((e : Expr) (xs ys : List Stmt) → l ≡ StmtKind-F.If e xs ys → ⊥)
@@ -134,51 +133,63 @@ pub behind_local : (s : Stmt) (t : TypeWord) (w : Word) (r : Option Right) → s
 behind_local s t w r h v =
     ap (λ p. p.checked.behind v) (stmt_shown s (StmtKind-F.Local t w r) (tree.Local t w r) h (tree.rolls-Local t w r))
 
-pub if_assigned : (s : Stmt) (e : Expr) (xs ys : List Stmt) → s.kind ≡ tree.If e xs ys → (elaborated_statement s).assigned ≡ assigned_in (map elaborated_statement xs) ++ assigned_in (map elaborated_statement ys)
+pub if_assigned : (s : Stmt) (e : Expr) (xs ys : List Stmt) → s.kind ≡ tree.If e xs ys → (elaborated_statement s).assigned
+    ≡ assigned_in (map elaborated_statement xs) ++ assigned_in (map elaborated_statement ys)
 if_assigned s e xs ys h =
     ap (λ p. p.assigned) (stmt_shown s (StmtKind-F.If e xs ys) (tree.If e xs ys) h (tree.rolls-If e xs ys))
 
-pub if_old : (s : Stmt) (e : Expr) (xs ys : List Stmt) → s.kind ≡ tree.If e xs ys → (elaborated_statement s).old ≡ (old_in (map elaborated_statement xs) || old_in (map elaborated_statement ys))
+pub if_old : (s : Stmt) (e : Expr) (xs ys : List Stmt) → s.kind ≡ tree.If e xs ys → (elaborated_statement s).old
+    ≡ (old_in (map elaborated_statement xs) || old_in (map elaborated_statement ys))
 if_old s e xs ys h =
     ap (λ p. p.old) (stmt_shown s (StmtKind-F.If e xs ys) (tree.If e xs ys) h (tree.rolls-If e xs ys))
 
-pub if_sent : (s : Stmt) (e : Expr) (xs ys : List Stmt) → s.kind ≡ tree.If e xs ys → (a : Environment) (v : Visible) → (elaborated_statement s).sent a v ≡ sent_in (map elaborated_statement xs) a v ++ sent_in (map elaborated_statement ys) a v
+pub if_sent : (s : Stmt) (e : Expr) (xs ys : List Stmt) → s.kind ≡ tree.If e xs ys → (a : Environment) (v : Visible)
+    → (elaborated_statement s).sent a v ≡ sent_in (map elaborated_statement xs) a v ++ sent_in (map elaborated_statement ys) a v
 if_sent s e xs ys h a v =
     ap (λ p. p.sent a v) (stmt_shown s (StmtKind-F.If e xs ys) (tree.If e xs ys) h (tree.rolls-If e xs ys))
 
-pub while_assigned : (s : Stmt) (es : List Expr) (e : Expr) (xs : List Stmt) → s.kind ≡ tree.While es e xs → (elaborated_statement s).assigned ≡ assigned_in (map elaborated_statement xs)
+pub while_assigned : (s : Stmt) (es : List Expr) (e : Expr) (xs : List Stmt) → s.kind ≡ tree.While es e xs
+    → (elaborated_statement s).assigned ≡ assigned_in (map elaborated_statement xs)
 while_assigned s es e xs h =
     ap (λ p. p.assigned) (stmt_shown s (StmtKind-F.While es e xs) (tree.While es e xs) h (tree.rolls-While es e xs))
 
-pub while_old : (s : Stmt) (es : List Expr) (e : Expr) (xs : List Stmt) → s.kind ≡ tree.While es e xs → (elaborated_statement s).old ≡ (list_any has_old es || old_in (map elaborated_statement xs))
+pub while_old : (s : Stmt) (es : List Expr) (e : Expr) (xs : List Stmt) → s.kind ≡ tree.While es e xs
+    → (elaborated_statement s).old ≡ (list_any has_old es || old_in (map elaborated_statement xs))
 while_old s es e xs h =
     ap (λ p. p.old) (stmt_shown s (StmtKind-F.While es e xs) (tree.While es e xs) h (tree.rolls-While es e xs))
 
-pub while_sent : (s : Stmt) (es : List Expr) (e : Expr) (xs : List Stmt) → s.kind ≡ tree.While es e xs → (a : Environment) (v : Visible) → (elaborated_statement s).sent a v ≡ sent_in (map elaborated_statement xs) a v
+pub while_sent : (s : Stmt) (es : List Expr) (e : Expr) (xs : List Stmt) → s.kind ≡ tree.While es e xs
+    → (a : Environment) (v : Visible) → (elaborated_statement s).sent a v ≡ sent_in (map elaborated_statement xs) a v
 while_sent s es e xs h a v =
     ap (λ p. p.sent a v) (stmt_shown s (StmtKind-F.While es e xs) (tree.While es e xs) h (tree.rolls-While es e xs))
 
-pub for_assigned : (s : Stmt) (r : Range) (c : Contract) (xs : List Stmt) → s.kind ≡ tree.For r c xs → (elaborated_statement s).assigned ≡ assigned_in (map elaborated_statement xs)
+pub for_assigned : (s : Stmt) (r : Range) (c : Contract) (xs : List Stmt) → s.kind ≡ tree.For r c xs
+    → (elaborated_statement s).assigned ≡ assigned_in (map elaborated_statement xs)
 for_assigned s r c xs h =
     ap (λ p. p.assigned) (stmt_shown s (StmtKind-F.For r c xs) (tree.For r c xs) h (tree.rolls-For r c xs))
 
-pub for_old : (s : Stmt) (r : Range) (c : Contract) (xs : List Stmt) → s.kind ≡ tree.For r c xs → (elaborated_statement s).old ≡ (contract_has_old c || old_in (map elaborated_statement xs))
+pub for_old : (s : Stmt) (r : Range) (c : Contract) (xs : List Stmt) → s.kind ≡ tree.For r c xs
+    → (elaborated_statement s).old ≡ (contract_has_old c || old_in (map elaborated_statement xs))
 for_old s r c xs h =
     ap (λ p. p.old) (stmt_shown s (StmtKind-F.For r c xs) (tree.For r c xs) h (tree.rolls-For r c xs))
 
-pub par_assigned : (s : Stmt) (b : Option Word) (r : Range) (c : Contract) (xs : List Stmt) → s.kind ≡ tree.Par b r c xs → (elaborated_statement s).assigned ≡ assigned_in (map elaborated_statement xs)
+pub par_assigned : (s : Stmt) (b : Option Word) (r : Range) (c : Contract) (xs : List Stmt) → s.kind ≡ tree.Par b r c xs
+    → (elaborated_statement s).assigned ≡ assigned_in (map elaborated_statement xs)
 par_assigned s b r c xs h =
     ap (λ p. p.assigned) (stmt_shown s (StmtKind-F.Par b r c xs) (tree.Par b r c xs) h (tree.rolls-Par b r c xs))
 
-pub par_old : (s : Stmt) (b : Option Word) (r : Range) (c : Contract) (xs : List Stmt) → s.kind ≡ tree.Par b r c xs → (elaborated_statement s).old ≡ (contract_has_old c || old_in (map elaborated_statement xs))
+pub par_old : (s : Stmt) (b : Option Word) (r : Range) (c : Contract) (xs : List Stmt) → s.kind ≡ tree.Par b r c xs
+    → (elaborated_statement s).old ≡ (contract_has_old c || old_in (map elaborated_statement xs))
 par_old s b r c xs h =
     ap (λ p. p.old) (stmt_shown s (StmtKind-F.Par b r c xs) (tree.Par b r c xs) h (tree.rolls-Par b r c xs))
 
-pub par_sent : (s : Stmt) (b : Option Word) (r : Range) (c : Contract) (xs : List Stmt) → s.kind ≡ tree.Par b r c xs → (a : Environment) (v : Visible) → (elaborated_statement s).sent a v ≡ sent_in (map elaborated_statement xs) a v
+pub par_sent : (s : Stmt) (b : Option Word) (r : Range) (c : Contract) (xs : List Stmt) → s.kind ≡ tree.Par b r c xs
+    → (a : Environment) (v : Visible) → (elaborated_statement s).sent a v ≡ sent_in (map elaborated_statement xs) a v
 par_sent s b r c xs h a v =
     ap (λ p. p.sent a v) (stmt_shown s (StmtKind-F.Par b r c xs) (tree.Par b r c xs) h (tree.rolls-Par b r c xs))
 
-pub barrier_old : (s : Stmt) (w : Word) (c : Contract) → s.kind ≡ tree.Barrier w c → (elaborated_statement s).old ≡ contract_has_old c
+pub barrier_old : (s : Stmt) (w : Word) (c : Contract) → s.kind ≡ tree.Barrier w c → (elaborated_statement s).old
+    ≡ contract_has_old c
 barrier_old s w c h =
     ap (λ p. p.old) (stmt_shown s (StmtKind-F.Barrier w c) (tree.Barrier w c) h (tree.rolls-Barrier w c))
 
@@ -190,10 +201,12 @@ pub send_old : (s : Stmt) (w : Word) (n : ℕ) (e : Expr) → s.kind ≡ tree.Se
 send_old s w n e h =
     ap (λ p. p.old) (stmt_shown s (StmtKind-F.Send w n e) (tree.Send w n e) h (tree.rolls-Send w n e))
 
-pub send_sent : (s : Stmt) (w : Word) (n : ℕ) (e : Expr) → s.kind ≡ tree.Send w n e → (a : Environment) (v : Visible) → (elaborated_statement s).sent a v ≡ core_of_message a v w n e ∷ []
+pub send_sent : (s : Stmt) (w : Word) (n : ℕ) (e : Expr) → s.kind ≡ tree.Send w n e → (a : Environment) (v : Visible)
+    → (elaborated_statement s).sent a v ≡ core_of_message a v w n e ∷ []
 send_sent s w n e h a v =
     ap (λ p. p.sent a v) (stmt_shown s (StmtKind-F.Send w n e) (tree.Send w n e) h (tree.rolls-Send w n e))
 
-pub assign_assigned : (s : Stmt) (e : Expr) (r : Right) → s.kind ≡ tree.Assign e r → (elaborated_statement s).assigned ≡ name_of_kind e.kind
+pub assign_assigned : (s : Stmt) (e : Expr) (r : Right) → s.kind ≡ tree.Assign e r → (elaborated_statement s).assigned
+    ≡ name_of_kind e.kind
 assign_assigned s e r h =
     ap (λ p. p.assigned) (stmt_shown s (StmtKind-F.Assign e r) (tree.Assign e r) h (tree.rolls-Assign e r))

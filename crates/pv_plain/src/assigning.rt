@@ -87,11 +87,7 @@ fn variables_of(alloc: Global, names: &[Name], sight: Sight) -> Result<Parameter
 }
 
 /// The variables in scope that statements assign.
-pub(crate) fn assigned(
-    alloc: Global,
-    body: &[Stmt],
-    sight: Sight,
-) -> Result<Parameters, NoMemory>
+pub(crate) fn assigned(alloc: Global, body: &[Stmt], sight: Sight) -> Result<Parameters, NoMemory>
     ensures { IfOk result (λ ps. parameters_of ps ≡ variables_among (in_scope sight.entry) (assigned_in (map elaborated_statement body.now))) }
 {
     let mut names = Vec::new(alloc);

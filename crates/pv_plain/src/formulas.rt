@@ -16,9 +16,7 @@ ghost use Rattle.pv_plain.specs.Sights.{around, in_scope};
 use crate::expressions::expression;
 use crate::kinds::{class_at, holder_seen, settled};
 use crate::operations::this;
-use crate::places::{
-    add_cuts, no_formula, no_item, permission, permissions, term_of, units_of,
-};
+use crate::places::{add_cuts, no_formula, no_item, permission, permissions, term_of, units_of};
 use crate::sight::{Bounds, Sight};
 use pv_ast::{Args, Each, Expr, ExprKind, Operator, Token};
 use pv_base::{Name, NoMemory, Span};
@@ -77,12 +75,7 @@ fn is_fact(within: Option<Span>, operator: Operator, e: &Expr) -> bool
 }
 
 /// A pure formula.
-fn fact(
-    alloc: Global,
-    e: &Expr,
-    span: Span,
-    sight: Sight,
-) -> Result<Boxed<Formula>, NoMemory>
+fn fact(alloc: Global, e: &Expr, span: Span, sight: Sight) -> Result<Boxed<Formula>, NoMemory>
     ensures { IfOk result (λ f. formula_of f ≡ core.Fact (core_of_expression (around sight.entry) (in_scope sight.entry) e.now) span) }
 {
     let condition = expression(alloc, e, sight)?;
@@ -116,15 +109,14 @@ fn holds(
 {
     let class = class_at(e, sight);
     let object = expression(alloc, e, sight)?;
-    boxed(alloc, Formula::Holds(token, class, object.into_inner(), span))
+    boxed(
+        alloc,
+        Formula::Holds(token, class, object.into_inner(), span),
+    )
 }
 
 /// What arguments become.
-pub(crate) fn arguments(
-    alloc: Global,
-    args: &[Expr],
-    sight: Sight,
-) -> Result<Expressions, NoMemory>
+pub(crate) fn arguments(alloc: Global, args: &[Expr], sight: Sight) -> Result<Expressions, NoMemory>
     ensures { IfOk result (λ es. expressions_of es ≡ map (core_of_expression (around sight.entry) (in_scope sight.entry)) args.now) }
 {
     let mut all = Items::new(alloc);
@@ -181,11 +173,7 @@ fn behind(
     boxed(alloc, Formula::When(condition.into_inner(), body, span))
 }
 
-fn star(
-    alloc: Global,
-    a: Boxed<Formula>,
-    b: Boxed<Formula>,
-) -> Result<Boxed<Formula>, NoMemory>
+fn star(alloc: Global, a: Boxed<Formula>, b: Boxed<Formula>) -> Result<Boxed<Formula>, NoMemory>
     ensures { IfOk result (λ f. formula_of f ≡ core.Star (formula_of a) (formula_of b)) }
 {
     boxed(alloc, Formula::Star(a, b))
@@ -216,12 +204,7 @@ fn nothing(alloc: Global, span: Span) -> Result<Boxed<Formula>, NoMemory>
 }
 
 /// A pure condition on each position.
-fn repeated(
-    alloc: Global,
-    e: &Expr,
-    span: Span,
-    sight: Sight,
-) -> Result<Boxed<Item>, NoMemory>
+fn repeated(alloc: Global, e: &Expr, span: Span, sight: Sight) -> Result<Boxed<Item>, NoMemory>
     ensures { IfOk result (λ i. item_of i ≡ core.Repeated (core_of_expression (around sight.entry) (in_scope sight.entry) e.now) span) }
 {
     let condition = expression(alloc, e, sight)?;
@@ -244,12 +227,7 @@ fn repeated_implication(
 }
 
 /// `committed` of an object, which is no other for another position.
-fn committed(
-    alloc: Global,
-    e: &Expr,
-    span: Span,
-    sight: Sight,
-) -> Result<Boxed<Item>, NoMemory>
+fn committed(alloc: Global, e: &Expr, span: Span, sight: Sight) -> Result<Boxed<Item>, NoMemory>
     ensures { IfOk result (λ i. item_of i ≡ core.Committed (names.class_at (typing_in (checked_expression e.now) (around sight.entry) (in_scope sight.entry))) (core_of_expression (around sight.entry) (in_scope sight.entry) e.now) span) }
 {
     let class = class_at(e, sight);

@@ -80,7 +80,10 @@ fn team(
     counted: bool,
     range: &Range,
     contract: &Contract,
-    outside: (Boxed<pv_picks::plain::Expression>, Boxed<pv_picks::plain::Expression>),
+    outside: (
+        Boxed<pv_picks::plain::Expression>,
+        Boxed<pv_picks::plain::Expression>,
+    ),
     inside: Sight,
 ) -> Result<Team, NoMemory>
     ensures { IfOk result (λ t. team_of t ≡ record { counted = counted; variable = range.now.name.name; low = expression_of outside.0; high = expression_of outside.1; shared = elaborating.core_of_shared range.now.name.name (around inside.entry) (in_scope inside.entry) contract.now }) }

@@ -27,14 +27,14 @@ loop-name-preserved c =
     let put = c.in_ok-insert.ensures.put in
     let fresh = c.in_ok-insert.ensures.fresh in
     elim c.if-branch.branch [
-      then-branch+in_ok-add_variable w ↦
-        new_next v known known' names at none x (parameters_of c.loop-name.all) (parameters_of c.if-branch.all)
-        c.loop-name-test.true refl (not_true (known x) (sym fresh ∙ w.if-branch.true)) put
-        (ap parameters_of w.all-is ∙ w.in_ok-add_variable.ensures)
-        ∙ c.loop-name.invariant
-    | else-branch w ↦
-        ap (λ ps. parameters_of ps ++ variables_left v known' (drop (at + 1) names)) w.all-is
-        ∙ known_next v known known' names at none x (parameters_of c.loop-name.all) c.loop-name-test.true refl
-        (not_false (known x) (sym fresh ∙ w.if-branch.false)) put
-        ∙ c.loop-name.invariant
+      | then-branch+in_ok-add_variable w ↦
+          new_next v known known' names at none x (parameters_of c.loop-name.all) (parameters_of c.if-branch.all)
+          c.loop-name-test.true refl (not_true (known x) (sym fresh ∙ w.if-branch.true)) put
+          (ap parameters_of w.all-is ∙ w.in_ok-add_variable.ensures)
+          ∙ c.loop-name.invariant
+      | else-branch w ↦
+          ap (λ ps. parameters_of ps ++ variables_left v known' (drop (at + 1) names)) w.all-is
+          ∙ known_next v known known' names at none x (parameters_of c.loop-name.all) c.loop-name-test.true refl
+          (not_false (known x) (sym fresh ∙ w.if-branch.false)) put
+          ∙ c.loop-name.invariant
     ]

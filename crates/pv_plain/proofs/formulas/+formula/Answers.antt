@@ -21,7 +21,7 @@ formula-returns-in_ok-b-in-Binary t c =
     let a = around c.args.sight in
     let v = in_scope c.args.sight in
     rw (star_formula e c.in-Binary.a c.in-Binary.b c.in-Binary.operator c.in-Binary.is w a v (sym c.if-is_fact.ensures) (sym
-        c.if-keeps_left.ensures))
+    c.if-keeps_left.ensures))
     (grind (arith, common_steps))
 
 pub formula-returns-in_ok-body-in-Binary : goal.formula-returns-in_ok-body-in-Binary
@@ -31,7 +31,7 @@ formula-returns-in_ok-body-in-Binary t c =
     let a = around c.args.sight in
     let v = in_scope c.args.sight in
     rw (when_formula e c.in-Binary.a c.in-Binary.b c.in-Binary.operator c.in-Binary.is w a v (sym c.if-is_fact.ensures) (sym
-        c.if-is_implication.ensures))
+    c.if-is_implication.ensures))
     (grind (arith, common_steps))
 
 pub formula-returns-else-is_implication : goal.formula-returns-else-is_implication
@@ -41,7 +41,7 @@ formula-returns-else-is_implication t c =
     let a = around c.args.sight in
     let v = in_scope c.args.sight in
     rw (refused_formula e c.in-Binary.a c.in-Binary.b c.in-Binary.operator c.in-Binary.is w a v (sym c.if-is_fact.ensures)
-        (sym c.if-keeps_left.ensures) (sym c.if-is_implication.ensures))
+    (sym c.if-keeps_left.ensures) (sym c.if-is_implication.ensures))
     (grind (arith, common_steps))
 
 pub formula-returns-in-Perm : goal.formula-returns-in-Perm
@@ -87,7 +87,7 @@ formula-returns-in_default t c =
     let a = around c.args.sight in
     let v = in_scope c.args.sight in
     rw (plain_formula e c.in_default.not-Binary c.in_default.not-Perm c.in_default.not-Token c.in_default.not-Instance
-        c.in_default.not-Each w a v)
+    c.in_default.not-Each w a v)
     (grind (arith, common_steps))
 
 pub item-returns-then-not-is_implication : goal.item-returns-then-not-is_implication
@@ -97,7 +97,7 @@ item-returns-then-not-is_implication t c =
     let a = around c.args.sight in
     let v = in_scope c.args.sight in
     rw (repeated_operator e c.in-Binary.a c.in-Binary.b c.in-Binary.operator c.in-Binary.is c.args.name w a v (sym
-        c.if-not-is_implication.ensures))
+    c.if-not-is_implication.ensures))
     (grind (arith, common_steps))
 
 pub item-returns-in_ok-body-in-Binary : goal.item-returns-in_ok-body-in-Binary
@@ -108,9 +108,9 @@ item-returns-in_ok-body-in-Binary t c =
     let v = in_scope c.args.sight in
     let shown = sym (ap (λ e. (shape_of e).facts c.args.name.0) c.get.ensures) in
     let fixing = ap (λ (f : Facts). is_fixing f.form) shown ∙ sym (c.if-is_fixing.ensures ∙ ap (λ (f : Facts). is_fixing
-        f.form) c.facts_of-form.ensures) in
+    f.form) c.facts_of-form.ensures) in
     rw (fixed_item e c.in-Binary.a c.in-Binary.b c.in-Binary.operator c.in-Binary.is c.args.name w a v (sym
-        c.if-not-is_implication.ensures) fixing)
+    c.if-not-is_implication.ensures) fixing)
     (grind (arith, common_steps))
 
 pub item-returns-in_ok-item-in-Binary : goal.item-returns-in_ok-item-in-Binary
@@ -121,11 +121,11 @@ item-returns-in_ok-item-in-Binary t c =
     let v = in_scope c.args.sight in
     let shown = sym (ap (λ e. (shape_of e).facts c.args.name.0) c.get.ensures) in
     let fixing = ap (λ (f : Facts). is_fixing f.form) shown ∙ sym (c.if-is_fixing.ensures ∙ ap (λ (f : Facts). is_fixing
-        f.form) c.facts_of-form.ensures) in
+    f.form) c.facts_of-form.ensures) in
     let guard = ap (λ (f : Facts). is_guard f.form) shown ∙ sym (c.if-is_guard.ensures ∙ ap (λ (f : Facts). is_guard f.form)
-        c.facts_of-form.ensures) in
+    c.facts_of-form.ensures) in
     rw (guarded_item e c.in-Binary.a c.in-Binary.b c.in-Binary.operator c.in-Binary.is c.args.name w a v (sym
-        c.if-not-is_implication.ensures) fixing guard)
+    c.if-not-is_implication.ensures) fixing guard)
     (grind (arith, common_steps))
 
 pub item-returns-else-is_guard : goal.item-returns-else-is_guard
@@ -136,11 +136,11 @@ item-returns-else-is_guard t c =
     let v = in_scope c.args.sight in
     let shown = sym (ap (λ e. (shape_of e).facts c.args.name.0) c.get.ensures) in
     let fixing = ap (λ (f : Facts). is_fixing f.form) shown ∙ sym (c.if-is_fixing.ensures ∙ ap (λ (f : Facts). is_fixing
-        f.form) c.facts_of-form.ensures) in
+    f.form) c.facts_of-form.ensures) in
     let guard = ap (λ (f : Facts). is_guard f.form) shown ∙ sym (c.if-is_guard.ensures ∙ ap (λ (f : Facts). is_guard f.form)
-        c.facts_of-form.ensures) in
+    c.facts_of-form.ensures) in
     rw (repeated_implication_item e c.in-Binary.a c.in-Binary.b c.in-Binary.operator c.in-Binary.is c.args.name w a v (sym
-        c.if-not-is_implication.ensures) fixing guard)
+    c.if-not-is_implication.ensures) fixing guard)
     (grind (arith, common_steps))
 
 pub item-returns-in-Perm : goal.item-returns-in-Perm
@@ -186,7 +186,7 @@ items-returns-in_ok-second-in-Binary t c =
     let a = around c.args.sight in
     let v = in_scope c.args.sight in
     rw (both_items e c.in-Binary.a c.in-Binary.b c.in-Binary.operator c.in-Binary.is c.args.name w a v (sym
-        c.if-keeps_left.ensures))
+    c.if-keeps_left.ensures))
     (grind (arith, common_steps))
 
 pub items-returns-in_ok-item-in-Binary : goal.items-returns-in_ok-item-in-Binary
@@ -196,7 +196,7 @@ items-returns-in_ok-item-in-Binary t c =
     let a = around c.args.sight in
     let v = in_scope c.args.sight in
     rw (operator_items e c.in-Binary.a c.in-Binary.b c.in-Binary.operator c.in-Binary.is c.args.name w a v (sym
-        c.if-keeps_left.ensures))
+    c.if-keeps_left.ensures))
     (grind (arith, common_steps))
 
 pub items-returns-in_ok-item-in_default : goal.items-returns-in_ok-item-in_default

@@ -12,27 +12,33 @@ statement_old-returns-else-body_old t c = rw (if_old c.args.s.now c.in-If.field-
     (grind (arith, common_steps))
 
 pub statement_old-returns-then-any_has_old : goal.statement_old-returns-then-any_has_old
-statement_old-returns-then-any_has_old t c = rw (while_old c.args.s.now c.in-While.invariants c.in-While.field-1 c.in-While.body c.in-While.is)
+statement_old-returns-then-any_has_old t c = rw (while_old c.args.s.now c.in-While.invariants c.in-While.field-1
+    c.in-While.body c.in-While.is)
     (grind (arith, common_steps))
 
 pub statement_old-returns-else-any_has_old : goal.statement_old-returns-else-any_has_old
-statement_old-returns-else-any_has_old t c = rw (while_old c.args.s.now c.in-While.invariants c.in-While.field-1 c.in-While.body c.in-While.is)
+statement_old-returns-else-any_has_old t c = rw (while_old c.args.s.now c.in-While.invariants c.in-While.field-1
+    c.in-While.body c.in-While.is)
     (grind (arith, common_steps))
 
 pub statement_old-returns-then-contract_old : goal.statement_old-returns-then-contract_old
-statement_old-returns-then-contract_old t c = rw (for_old c.args.s.now c.in-For.field-0 c.in-For.contract c.in-For.body c.in-For.is)
+statement_old-returns-then-contract_old t c = rw (for_old c.args.s.now c.in-For.field-0 c.in-For.contract c.in-For.body
+    c.in-For.is)
     (grind (arith, common_steps))
 
 pub statement_old-returns-else-contract_old : goal.statement_old-returns-else-contract_old
-statement_old-returns-else-contract_old t c = rw (for_old c.args.s.now c.in-For.field-0 c.in-For.contract c.in-For.body c.in-For.is)
+statement_old-returns-else-contract_old t c = rw (for_old c.args.s.now c.in-For.field-0 c.in-For.contract c.in-For.body
+    c.in-For.is)
     (grind (arith, common_steps))
 
 pub statement_old-returns-then-contract_old-2 : goal.statement_old-returns-then-contract_old-2
-statement_old-returns-then-contract_old-2 t c = rw (par_old c.args.s.now c.in-Par.field-0 c.in-Par.field-1 c.in-Par.contract c.in-Par.body c.in-Par.is)
+statement_old-returns-then-contract_old-2 t c = rw (par_old c.args.s.now c.in-Par.field-0 c.in-Par.field-1 c.in-Par.contract
+    c.in-Par.body c.in-Par.is)
     (grind (arith, common_steps))
 
 pub statement_old-returns-else-contract_old-2 : goal.statement_old-returns-else-contract_old-2
-statement_old-returns-else-contract_old-2 t c = rw (par_old c.args.s.now c.in-Par.field-0 c.in-Par.field-1 c.in-Par.contract c.in-Par.body c.in-Par.is)
+statement_old-returns-else-contract_old-2 t c = rw (par_old c.args.s.now c.in-Par.field-0 c.in-Par.field-1 c.in-Par.contract
+    c.in-Par.body c.in-Par.is)
     (grind (arith, common_steps))
 
 pub statement_old-returns-in-Barrier : goal.statement_old-returns-in-Barrier

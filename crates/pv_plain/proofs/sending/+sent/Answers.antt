@@ -12,35 +12,35 @@ pub add_sent-returns-in_ok-add_all_sent-in-If : goal.add_sent-returns-in_ok-add_
 add_sent-returns-in_ok-add_all_sent-in-If t c =
     on_ok c.add_all_sent-in-If.result
     (λ h a v.
-      let old : List Message = messages_of a v c.args.sent.now.items in
-      let sends = λ (xs : List Stmt). sent_in (map elaborated_statement xs) a v in
-      let first : List Stmt = c.as_slice.result.now in
-      let second : List Stmt = c.as_slice-in-If.result.now in
-      h a v ∙ ap (λ l. l ++ sends second) (c.in_ok-add_all_sent-in-If.ensures a v)
-      ∙ append_assoc old (sends first) (sends second)
-      ∙ ap (λ xs. old ++ (sends xs ++ sends second)) c.as_slice.ensures
-      ∙ ap (λ xs. old ++ (sends c.in-If.first ++ sends xs)) c.as_slice-in-If.ensures
-      ∙ ap (λ l. old ++ l) (sym (if_sent c.args.s.now c.in-If.field-0 c.in-If.first c.in-If.second c.in-If.is a v)))
+    let old : List Message = messages_of a v c.args.sent.now.items in
+    let sends = λ (xs : List Stmt). sent_in (map elaborated_statement xs) a v in
+    let first : List Stmt = c.as_slice.result.now in
+    let second : List Stmt = c.as_slice-in-If.result.now in
+    h a v ∙ ap (λ l. l ++ sends second) (c.in_ok-add_all_sent-in-If.ensures a v)
+    ∙ append_assoc old (sends first) (sends second)
+    ∙ ap (λ xs. old ++ (sends xs ++ sends second)) c.as_slice.ensures
+    ∙ ap (λ xs. old ++ (sends c.in-If.first ++ sends xs)) c.as_slice-in-If.ensures
+    ∙ ap (λ l. old ++ l) (sym (if_sent c.args.s.now c.in-If.field-0 c.in-If.first c.in-If.second c.in-If.is a v)))
     c.add_all_sent-in-If.ensures
 
 pub add_sent-returns-in-While : goal.add_sent-returns-in-While
 add_sent-returns-in-While t c =
     on_ok c.add_all_sent-in-While.result
     (λ h a v.
-      let old : List Message = messages_of a v c.args.sent.now.items in
-      h a v ∙ ap (λ xs. old ++ sent_in (map elaborated_statement xs) a v) c.as_slice-in-While.ensures
-      ∙ ap (λ l. old ++ l)
-      (sym (while_sent c.args.s.now c.in-While.field-0 c.in-While.field-1 c.in-While.body c.in-While.is a v)))
+    let old : List Message = messages_of a v c.args.sent.now.items in
+    h a v ∙ ap (λ xs. old ++ sent_in (map elaborated_statement xs) a v) c.as_slice-in-While.ensures
+    ∙ ap (λ l. old ++ l)
+    (sym (while_sent c.args.s.now c.in-While.field-0 c.in-While.field-1 c.in-While.body c.in-While.is a v)))
     c.add_all_sent-in-While.ensures
 
 pub add_sent-returns-in-Par : goal.add_sent-returns-in-Par
 add_sent-returns-in-Par t c =
     on_ok c.add_all_sent-in-Par.result
     (λ h a v.
-      let old : List Message = messages_of a v c.args.sent.now.items in
-      h a v ∙ ap (λ xs. old ++ sent_in (map elaborated_statement xs) a v) c.as_slice-in-Par.ensures
-      ∙ ap (λ l. old ++ l)
-      (sym (par_sent c.args.s.now c.in-Par.field-0 c.in-Par.field-1 c.in-Par.field-2 c.in-Par.body c.in-Par.is a v)))
+    let old : List Message = messages_of a v c.args.sent.now.items in
+    h a v ∙ ap (λ xs. old ++ sent_in (map elaborated_statement xs) a v) c.as_slice-in-Par.ensures
+    ∙ ap (λ l. old ++ l)
+    (sym (par_sent c.args.s.now c.in-Par.field-0 c.in-Par.field-1 c.in-Par.field-2 c.in-Par.body c.in-Par.is a v)))
     c.add_all_sent-in-Par.ensures
 
 pub add_sent-returns-in_ok-push-in-Send : goal.add_sent-returns-in_ok-push-in-Send

@@ -29,7 +29,7 @@ computed-operand-requires g t c κs within =
             c.requires.stores,
             evaluating.two_first K.path K.turns K.decisions
                 K.stands K.ended K.sorts c.args.own.now c.args.reading c.args.scene.now (expression_of c.args.a.now)
-                    (expression_of
+                (expression_of
                 c.args.b.now) (expressing.operating (manner_of c.args.manner) (operation_of c.args.operation) c.args.span)
                 c.args.stores.now c.args.asker.now c.requires.ready,
           ),
@@ -120,7 +120,7 @@ compared-operand-requires g t c κs within =
             c.requires.stores,
             evaluating.two_first K.path K.turns K.decisions
                 K.stands K.ended K.sorts c.args.own.now c.args.reading c.args.scene.now (expression_of c.args.a.now)
-                    (expression_of
+                (expression_of
                 c.args.b.now) (expressing.comparing (comparison_of c.args.order)) c.args.stores.now c.args.asker.now
                 c.requires.ready,
           ),
@@ -215,7 +215,7 @@ equal-operand-requires g t c κs within =
             c.requires.stores,
             evaluating.two_first K.path K.turns K.decisions
                 K.stands K.ended K.sorts c.args.own.now c.args.reading c.args.scene.now (expression_of c.args.a.now)
-                    (expression_of
+                (expression_of
                 c.args.b.now) (expressing.matching c.args.same) c.args.stores.now c.args.asker.now c.requires.ready,
           ),
         ),
@@ -355,7 +355,7 @@ both-operand-requires-then-told g t c κs within =
             evaluating.yes_may K.path
                 K.turns K.decisions K.stands K.ended K.sorts c.args.own.now c.args.reading c.args.scene.now (expression_of
                 c.args.a.now) (expressing.value_of c.args.reading c.args.scene.now (expression_of c.args.b.now))
-                    (expressing.truth_of
+                (expressing.truth_of
                 false) c.args.stores.now c.args.asker.now c.operand.new.asker c.operand.new.stores (λ e. operand_at e.values
                 c.in_ok-v.v) c.in_ok-v.ensures.does c.decide.new.asker c.in_ok-told.told f.asks f.tells f.sorted f.says
                 c.if-told.true c.requires.ready,
@@ -459,7 +459,7 @@ either-operand-requires-then-not-told g t c κs within =
                 K.turns K.decisions K.stands K.ended K.sorts c.args.own.now c.args.reading c.args.scene.now (expression_of
                 c.args.a.now) (expressing.truth_of true) (expressing.value_of c.args.reading c.args.scene.now (expression_of
                 c.args.b.now)) c.args.stores.now c.args.asker.now c.operand.new.asker c.operand.new.stores (λ e. operand_at
-                    e.values
+                e.values
                 c.in_ok-v.v) c.in_ok-v.ensures.does c.decide.new.asker c.in_ok-told.told f.asks f.tells f.sorted f.says
                 c.if-not-told.true c.requires.ready,
           ),
@@ -561,7 +561,7 @@ implied-operand-requires-then-told g t c κs within =
             evaluating.yes_may K.path
                 K.turns K.decisions K.stands K.ended K.sorts c.args.own.now c.args.reading c.args.scene.now (expression_of
                 c.args.a.now) (expressing.value_of c.args.reading c.args.scene.now (expression_of c.args.b.now))
-                    (expressing.truth_of
+                (expressing.truth_of
                 true) c.args.stores.now c.args.asker.now c.operand.new.asker c.operand.new.stores (λ e. operand_at e.values
                 c.in_ok-v.v) c.in_ok-v.ensures.does c.decide.new.asker c.in_ok-told.told f.asks f.tells f.sorted f.says
                 c.if-told.true c.requires.ready,
@@ -905,7 +905,7 @@ operand-equal-requires g t c κs within =
             expressing.value_may K.path K.turns K.decisions K.stands
                 K.ended K.sorts c.args.own.now c.args.reading c.args.scene.now c.args.stores.now c.args.asker.now (core.Equal
                 c.in-Equal.same (expression_of c.get-in-Equal.result.now) (expression_of c.get-in-Equal-2.result.now))
-                    (expression_of
+                (expression_of
                 c.args.x.now) (search (rules, views.the_lemmas, folds.the_lemmas)) c.requires.ready,
           ),
         ),
@@ -960,7 +960,7 @@ operand-either-requires g t c κs within =
             expressing.value_may K.path K.turns K.decisions K.stands
                 K.ended K.sorts c.args.own.now c.args.reading c.args.scene.now c.args.stores.now c.args.asker.now (core.Or
                 (expression_of c.get-in-Or.result.now) (expression_of c.get-in-Or-2.result.now)) (expression_of c.args.x.now)
-                    (search
+                (search
                 (rules, views.the_lemmas, folds.the_lemmas)) c.requires.ready,
           ),
         ),
@@ -1004,8 +1004,11 @@ operand-opposite-requires g t c κs within =
             c.requires.stores,
             expressing.value_may K.path K.turns K.decisions K.stands
                 K.ended K.sorts c.args.own.now c.args.reading c.args.scene.now c.args.stores.now c.args.asker.now (core.Not
-                (expression_of c.get.result.now)) (expression_of c.args.x.now) (search (rules, views.the_lemmas,
-                    folds.the_lemmas))
+                (expression_of c.get.result.now)) (expression_of c.args.x.now) (search (
+                  rules,
+                  views.the_lemmas,
+                  folds.the_lemmas,
+                ))
                 c.requires.ready,
           ),
         ),

@@ -16,205 +16,276 @@ use Rattle.pv_state.proofs.formulas.+inhale.Goals as goal
 
 pub inhale_both-inhale-requires : goal.inhale_both-inhale-requires
 inhale_both-inhale-requires g t c κs within =
-    let K = g.K.Asker in
-    (omega (arith, c.decreases), (search rules, (c.requires.scene, (c.requires.stores, conjuncts.turn_first K.path K.turns
-        K.decisions K.stands K.ended K.sorts c.args.own.now ((take c.args.scene.now) (formula_of c.args.a.now)) ((take
-        c.args.scene.now) (formula_of c.args.b.now)) c.args.stores.now c.args.asker.now c.requires.ready))))
+    let K = g.K.Asker in (
+      omega (arith, c.decreases),
+      (
+        search rules,
+        (
+          c.requires.scene,
+          (
+            c.requires.stores,
+            conjuncts.turn_first K.path K.turns
+                K.decisions K.stands K.ended K.sorts c.args.own.now ((take c.args.scene.now) (formula_of c.args.a.now)) ((take
+                c.args.scene.now) (formula_of c.args.b.now)) c.args.stores.now c.args.asker.now c.requires.ready,
+          ),
+        ),
+      ),
+    )
 
 pub inhale_both-returns-in_err-first-clause-halts : goal.inhale_both-returns-in_err-first-clause-halts
 inhale_both-returns-in_err-first-clause-halts g t c =
     let K = g.K.Asker in
     when_err c.from_residual.result (conjuncts.turn_stops K.path K.turns K.decisions K.stands K.ended K.sorts c.args.own.now
-        ((take c.args.scene.now) (formula_of c.args.a.now)) ((take c.args.scene.now) (formula_of c.args.b.now))
-        c.args.stores.now c.args.asker.now c.inhale.new.asker c.in_err-first.ensures.halts)
+    ((take c.args.scene.now) (formula_of c.args.a.now)) ((take c.args.scene.now) (formula_of c.args.b.now))
+    c.args.stores.now c.args.asker.now c.inhale.new.asker c.in_err-first.ensures.halts)
 
 pub inhale_both-inhale-requires-in-Goes : goal.inhale_both-inhale-requires-in-Goes
 inhale_both-inhale-requires-in-Goes g t c κs within =
-    let K = g.K.Asker in
-    (omega (arith, c.decreases), (search rules, (scene_grown _ _ _ c.in_ok-first.ensures.does.grows c.requires.scene,
-        (c.in_ok-first.ensures.stores, conjuncts.turn_second K.path K.turns K.decisions K.stands K.ended K.sorts
-        c.args.own.now ((take c.args.scene.now) (formula_of c.args.a.now)) ((take c.args.scene.now) (formula_of
-        c.args.b.now)) c.args.stores.now c.args.asker.now c.inhale.new.asker c.inhale.new.stores c.in_ok-first.first
-        c.in-Goes.is c.in_ok-first.ensures.does c.requires.ready))))
+    let K = g.K.Asker in (
+      omega (arith, c.decreases),
+      (
+        search rules,
+        (
+          scene_grown _ _ _ c.in_ok-first.ensures.does.grows c.requires.scene,
+          (
+            c.in_ok-first.ensures.stores,
+            conjuncts.turn_second K.path K.turns K.decisions K.stands K.ended K.sorts
+                c.args.own.now ((take c.args.scene.now) (formula_of c.args.a.now)) ((take c.args.scene.now) (formula_of
+                c.args.b.now)) c.args.stores.now c.args.asker.now c.inhale.new.asker c.inhale.new.stores c.in_ok-first.first
+                c.in-Goes.is c.in_ok-first.ensures.does c.requires.ready,
+          ),
+        ),
+      ),
+    )
 
 pub inhale_both-returns-in-Goes-clause-does : goal.inhale_both-returns-in-Goes-clause-does
 inhale_both-returns-in-Goes-clause-does g t c =
     let K = g.K.Asker in
     ok_then c.inhale-in-Goes.result _ _ (λ x h. conjuncts.turn_done K.path K.turns K.decisions K.stands K.ended K.sorts
-        c.args.own.now ((take c.args.scene.now) (formula_of c.args.a.now)) ((take c.args.scene.now) (formula_of
-        c.args.b.now)) c.args.stores.now c.args.asker.now c.inhale.new.asker c.inhale.new.stores c.in_ok-first.first
-        c.in-Goes.is c.in_ok-first.ensures.does c.inhale-in-Goes.new.asker _ h) c.inhale-in-Goes.ensures.does
+    c.args.own.now ((take c.args.scene.now) (formula_of c.args.a.now)) ((take c.args.scene.now) (formula_of
+    c.args.b.now)) c.args.stores.now c.args.asker.now c.inhale.new.asker c.inhale.new.stores c.in_ok-first.first
+    c.in-Goes.is c.in_ok-first.ensures.does c.inhale-in-Goes.new.asker _ h) c.inhale-in-Goes.ensures.does
 
 pub inhale_both-returns-in-Goes-clause-halts : goal.inhale_both-returns-in-Goes-clause-halts
 inhale_both-returns-in-Goes-clause-halts g t c =
     let K = g.K.Asker in
     err_then c.inhale-in-Goes.result (λ h. conjuncts.turn_stops_second K.path K.turns K.decisions K.stands K.ended K.sorts
-        c.args.own.now ((take c.args.scene.now) (formula_of c.args.a.now)) ((take c.args.scene.now) (formula_of
-        c.args.b.now)) c.args.stores.now c.args.asker.now c.inhale.new.asker c.inhale.new.stores c.in_ok-first.first
-        c.in-Goes.is c.in_ok-first.ensures.does c.inhale-in-Goes.new.asker h) c.inhale-in-Goes.ensures.halts
+    c.args.own.now ((take c.args.scene.now) (formula_of c.args.a.now)) ((take c.args.scene.now) (formula_of
+    c.args.b.now)) c.args.stores.now c.args.asker.now c.inhale.new.asker c.inhale.new.stores c.in_ok-first.first
+    c.in-Goes.is c.in_ok-first.ensures.does c.inhale-in-Goes.new.asker h) c.inhale-in-Goes.ensures.halts
 
 pub inhale_both-returns-in-Blocked-clause-does : goal.inhale_both-returns-in-Blocked-clause-does
 inhale_both-returns-in-Blocked-clause-does g t c =
     let K = g.K.Asker in
     conjuncts.turn_ends K.path K.turns K.decisions K.stands K.ended K.sorts c.args.own.now ((take c.args.scene.now)
-        (formula_of c.args.a.now)) ((take c.args.scene.now) (formula_of c.args.b.now)) c.args.stores.now c.args.asker.now
-        c.inhale.new.asker c.inhale.new.stores Blocked (rw c.in-Blocked.is at c.in_ok-first.ensures.does)
+    (formula_of c.args.a.now)) ((take c.args.scene.now) (formula_of c.args.b.now)) c.args.stores.now c.args.asker.now
+    c.inhale.new.asker c.inhale.new.stores Blocked (rw c.in-Blocked.is at c.in_ok-first.ensures.does)
 
 pub inhale_both-returns-in-Failed-clause-does : goal.inhale_both-returns-in-Failed-clause-does
 inhale_both-returns-in-Failed-clause-does g t c =
     let K = g.K.Asker in
     conjuncts.turn_ends K.path K.turns K.decisions K.stands K.ended K.sorts c.args.own.now ((take c.args.scene.now)
-        (formula_of c.args.a.now)) ((take c.args.scene.now) (formula_of c.args.b.now)) c.args.stores.now c.args.asker.now
-        c.inhale.new.asker c.inhale.new.stores (Failed c.in-Failed.check c.in-Failed.span) (rw c.in-Failed.is at
-        c.in_ok-first.ensures.does)
+    (formula_of c.args.a.now)) ((take c.args.scene.now) (formula_of c.args.b.now)) c.args.stores.now c.args.asker.now
+    c.inhale.new.asker c.inhale.new.stores (Failed c.in-Failed.check c.in-Failed.span) (rw c.in-Failed.is at
+    c.in_ok-first.ensures.does)
 
 pub inhale_when-operand-requires-clause-ready : goal.inhale_when-operand-requires-clause-ready
 inhale_when-operand-requires-clause-ready g t c =
     let K = g.K.Asker in
     evaluating.branch_first K.path K.turns K.decisions K.stands K.ended K.sorts c.args.own.now Inhaled c.args.scene.now
-        (expression_of c.args.x.now) ((take c.args.scene.now) (formula_of c.args.body.now)) conjuncts.going c.args.stores.now
-        c.args.asker.now c.requires.ready
+    (expression_of c.args.x.now) ((take c.args.scene.now) (formula_of c.args.body.now)) conjuncts.going c.args.stores.now
+    c.args.asker.now c.requires.ready
 
 pub inhale_when-returns-in_err-v-clause-halts : goal.inhale_when-returns-in_err-v-clause-halts
 inhale_when-returns-in_err-v-clause-halts g t c =
     let K = g.K.Asker in
     when_err c.from_residual.result (evaluating.branch_stops K.path K.turns K.decisions K.stands K.ended K.sorts
-        c.args.own.now Inhaled c.args.scene.now (expression_of c.args.x.now) ((take c.args.scene.now) (formula_of
-        c.args.body.now)) conjuncts.going c.args.stores.now c.args.asker.now c.operand.new.asker c.in_err-v.ensures.halts)
+    c.args.own.now Inhaled c.args.scene.now (expression_of c.args.x.now) ((take c.args.scene.now) (formula_of
+    c.args.body.now)) conjuncts.going c.args.stores.now c.args.asker.now c.operand.new.asker c.in_err-v.ensures.halts)
 
 pub inhale_when-decide-requires-clause-ready : goal.inhale_when-decide-requires-clause-ready
 inhale_when-decide-requires-clause-ready g t c =
     let K = g.K.Asker in
     evaluating.branch_sorted K.path K.turns K.decisions K.stands K.ended K.sorts c.args.own.now Inhaled c.args.scene.now
-        (expression_of c.args.x.now) ((take c.args.scene.now) (formula_of c.args.body.now)) conjuncts.going c.args.stores.now
-        c.args.asker.now c.operand.new.asker c.operand.new.stores (λ e. operand_at e.values c.in_ok-v.v)
-        c.in_ok-v.ensures.does c.requires.ready
+    (expression_of c.args.x.now) ((take c.args.scene.now) (formula_of c.args.body.now)) conjuncts.going c.args.stores.now
+    c.args.asker.now c.operand.new.asker c.operand.new.stores (λ e. operand_at e.values c.in_ok-v.v)
+    c.in_ok-v.ensures.does c.requires.ready
 
 pub inhale_when-returns-in_err-told-clause-halts : goal.inhale_when-returns-in_err-told-clause-halts
 inhale_when-returns-in_err-told-clause-halts g t c =
     let K = g.K.Asker in
     let f = c.in_err-told.ensures in
     when_err c.from_residual-in_err-told.result (evaluating.branch_unasked K.path K.turns K.decisions K.stands K.ended
-        K.sorts c.args.own.now Inhaled c.args.scene.now (expression_of c.args.x.now) ((take c.args.scene.now) (formula_of
-        c.args.body.now)) conjuncts.going c.args.stores.now c.args.asker.now c.operand.new.asker c.operand.new.stores (λ e.
-        operand_at e.values c.in_ok-v.v) c.in_ok-v.ensures.does c.decide.new.asker f.stops f.stopped f.same_sorts
-        f.stopped_sorted)
+    K.sorts c.args.own.now Inhaled c.args.scene.now (expression_of c.args.x.now) ((take c.args.scene.now) (formula_of
+    c.args.body.now)) conjuncts.going c.args.stores.now c.args.asker.now c.operand.new.asker c.operand.new.stores (λ e.
+    operand_at e.values c.in_ok-v.v) c.in_ok-v.ensures.does c.decide.new.asker f.stops f.stopped f.same_sorts
+    f.stopped_sorted)
 
 pub inhale_when-returns-then-not-told-clause-does : goal.inhale_when-returns-then-not-told-clause-does
 inhale_when-returns-then-not-told-clause-does g t c =
     let K = g.K.Asker in
     let f = c.in_ok-told.ensures in
     evaluating.no_done K.path K.turns K.decisions K.stands K.ended K.sorts c.args.own.now Inhaled c.args.scene.now
-        (expression_of c.args.x.now) ((take c.args.scene.now) (formula_of c.args.body.now)) conjuncts.going c.args.stores.now
-        c.args.asker.now c.operand.new.asker c.operand.new.stores (λ e. operand_at e.values c.in_ok-v.v)
-        c.in_ok-v.ensures.does c.decide.new.asker c.in_ok-told.told f.asks f.tells f.sorted f.says c.if-not-told.true
-        c.decide.new.asker _ (conjuncts.goes_here K.path K.turns K.decisions K.stands K.ended K.sorts c.args.own.now
-        c.operand.new.stores c.decide.new.asker)
+    (expression_of c.args.x.now) ((take c.args.scene.now) (formula_of c.args.body.now)) conjuncts.going c.args.stores.now
+    c.args.asker.now c.operand.new.asker c.operand.new.stores (λ e. operand_at e.values c.in_ok-v.v)
+    c.in_ok-v.ensures.does c.decide.new.asker c.in_ok-told.told f.asks f.tells f.sorted f.says c.if-not-told.true
+    c.decide.new.asker _ (conjuncts.goes_here K.path K.turns K.decisions K.stands K.ended K.sorts c.args.own.now
+    c.operand.new.stores c.decide.new.asker)
 
 pub inhale_when-inhale-requires : goal.inhale_when-inhale-requires
 inhale_when-inhale-requires g t c κs within =
     let K = g.K.Asker in
-    let f = c.in_ok-told.ensures in
-    (omega (arith, c.decreases), (search rules, (scene_grown _ _ _ (expressing.front_same _ _ _ c.in_ok-v.ensures.does.grows
-        f.same_sorts) c.requires.scene, (expressing.stores_same _ _ _ f.same_sorts c.in_ok-v.ensures.stores,
-        evaluating.yes_may K.path K.turns K.decisions K.stands K.ended K.sorts c.args.own.now Inhaled c.args.scene.now
-        (expression_of c.args.x.now) ((take c.args.scene.now) (formula_of c.args.body.now)) conjuncts.going c.args.stores.now
-        c.args.asker.now c.operand.new.asker c.operand.new.stores (λ e. operand_at e.values c.in_ok-v.v)
-        c.in_ok-v.ensures.does c.decide.new.asker c.in_ok-told.told f.asks f.tells f.sorted f.says c.if-not-told.false
-        c.requires.ready))))
+    let f = c.in_ok-told.ensures in (
+      omega (arith, c.decreases),
+      (
+        search rules,
+        (
+          scene_grown _ _ _ (expressing.front_same _ _ _ c.in_ok-v.ensures.does.grows
+              f.same_sorts) c.requires.scene,
+          (
+            expressing.stores_same _ _ _ f.same_sorts c.in_ok-v.ensures.stores,
+            evaluating.yes_may K.path K.turns K.decisions K.stands K.ended K.sorts c.args.own.now Inhaled c.args.scene.now
+                (expression_of c.args.x.now) ((take c.args.scene.now) (formula_of c.args.body.now)) conjuncts.going
+                c.args.stores.now
+                c.args.asker.now c.operand.new.asker c.operand.new.stores (λ e. operand_at e.values c.in_ok-v.v)
+                c.in_ok-v.ensures.does c.decide.new.asker c.in_ok-told.told f.asks f.tells f.sorted f.says c.if-not-told.false
+                c.requires.ready,
+          ),
+        ),
+      ),
+    )
 
 pub inhale_when-returns-clause-does : goal.inhale_when-returns-clause-does
 inhale_when-returns-clause-does g t c =
     let K = g.K.Asker in
     let f = c.in_ok-told.ensures in
     ok_then c.inhale.result _ _ (λ x h. evaluating.yes_done K.path K.turns K.decisions K.stands K.ended K.sorts
-        c.args.own.now Inhaled c.args.scene.now (expression_of c.args.x.now) ((take c.args.scene.now) (formula_of
-        c.args.body.now)) conjuncts.going c.args.stores.now c.args.asker.now c.operand.new.asker c.operand.new.stores (λ e.
-        operand_at e.values c.in_ok-v.v) c.in_ok-v.ensures.does c.decide.new.asker c.in_ok-told.told f.asks f.tells f.sorted
-        f.says c.if-not-told.false c.inhale.new.asker _ h) c.inhale.ensures.does
+    c.args.own.now Inhaled c.args.scene.now (expression_of c.args.x.now) ((take c.args.scene.now) (formula_of
+    c.args.body.now)) conjuncts.going c.args.stores.now c.args.asker.now c.operand.new.asker c.operand.new.stores (λ e.
+    operand_at e.values c.in_ok-v.v) c.in_ok-v.ensures.does c.decide.new.asker c.in_ok-told.told f.asks f.tells f.sorted
+    f.says c.if-not-told.false c.inhale.new.asker _ h) c.inhale.ensures.does
 
 pub inhale_when-returns-clause-halts : goal.inhale_when-returns-clause-halts
 inhale_when-returns-clause-halts g t c =
     let K = g.K.Asker in
     let f = c.in_ok-told.ensures in
     err_then c.inhale.result (λ h. evaluating.yes_stops K.path K.turns K.decisions K.stands K.ended K.sorts c.args.own.now
-        Inhaled c.args.scene.now (expression_of c.args.x.now) ((take c.args.scene.now) (formula_of c.args.body.now))
-        conjuncts.going c.args.stores.now c.args.asker.now c.operand.new.asker c.operand.new.stores (λ e. operand_at e.values
-        c.in_ok-v.v) c.in_ok-v.ensures.does c.decide.new.asker c.in_ok-told.told f.asks f.tells f.sorted f.says
-        c.if-not-told.false c.inhale.new.asker h) c.inhale.ensures.halts
+    Inhaled c.args.scene.now (expression_of c.args.x.now) ((take c.args.scene.now) (formula_of c.args.body.now))
+    conjuncts.going c.args.stores.now c.args.asker.now c.operand.new.asker c.operand.new.stores (λ e. operand_at e.values
+    c.in_ok-v.v) c.in_ok-v.ensures.does c.decide.new.asker c.in_ok-told.told f.asks f.tells f.sorted f.says
+    c.if-not-told.false c.inhale.new.asker h) c.inhale.ensures.halts
 
 pub inhale-inhale_fact-requires-clause-ready : goal.inhale-inhale_fact-requires-clause-ready
 inhale-inhale_fact-requires-clause-ready g t c =
     let K = g.K.Asker in
     conjuncts.part_may K.path K.turns K.decisions K.stands K.ended K.sorts c.args.own.now (take c.args.scene.now)
-        c.args.stores.now c.args.asker.now (fact_of c.in-Fact.e c.in-Fact.span) (formula_of c.args.x.now) (search (rules,
-        views.the_lemmas, folds.the_lemmas)) c.requires.ready
+    c.args.stores.now c.args.asker.now (fact_of c.in-Fact.e c.in-Fact.span) (formula_of c.args.x.now) (search (
+      rules,
+      views.the_lemmas,
+      folds.the_lemmas,
+    )) c.requires.ready
 
 pub inhale-returns-in-Fact-clause-does : goal.inhale-returns-in-Fact-clause-does
 inhale-returns-in-Fact-clause-does g t c =
     let K = g.K.Asker in
     conjuncts.part_done K.path K.turns K.decisions K.stands K.ended K.sorts c.args.own.now (take c.args.scene.now)
-        c.args.stores.now c.args.asker.now (fact_of c.in-Fact.e c.in-Fact.span) (formula_of c.args.x.now) (search (rules,
-        views.the_lemmas, folds.the_lemmas)) c.inhale_fact.result c.inhale_fact.new.asker c.inhale_fact.new.stores
-        c.inhale_fact.ensures.does
+    c.args.stores.now c.args.asker.now (fact_of c.in-Fact.e c.in-Fact.span) (formula_of c.args.x.now) (search (
+      rules,
+      views.the_lemmas,
+      folds.the_lemmas,
+    )) c.inhale_fact.result c.inhale_fact.new.asker c.inhale_fact.new.stores
+    c.inhale_fact.ensures.does
 
 pub inhale-returns-in-Fact-clause-halts : goal.inhale-returns-in-Fact-clause-halts
 inhale-returns-in-Fact-clause-halts g t c =
     let K = g.K.Asker in
     conjuncts.part_stops K.path K.turns K.decisions K.stands K.ended K.sorts c.args.own.now (take c.args.scene.now)
-        c.args.stores.now c.args.asker.now (fact_of c.in-Fact.e c.in-Fact.span) (formula_of c.args.x.now) (search (rules,
-        views.the_lemmas, folds.the_lemmas)) c.inhale_fact.result c.inhale_fact.new.asker c.inhale_fact.ensures.halts
+    c.args.stores.now c.args.asker.now (fact_of c.in-Fact.e c.in-Fact.span) (formula_of c.args.x.now) (search (
+      rules,
+      views.the_lemmas,
+      folds.the_lemmas,
+    )) c.inhale_fact.result c.inhale_fact.new.asker c.inhale_fact.ensures.halts
 
 pub inhale-inhale_both-requires : goal.inhale-inhale_both-requires
 inhale-inhale_both-requires g t c κs within =
     let K = g.K.Asker in
     let one : the_size c.get.result.now < the_size c.args.x.now = search (rules, views.the_lemmas) in
     let two : the_size c.get-in-Star.result.now < the_size c.args.x.now = search (rules, views.the_lemmas) in
-    let less : 2 * max (the_size c.get.result.now) (the_size c.get-in-Star.result.now) + 1 < t = omega (arith, one, two,
-        c.decreases) in
-    (less, (search rules, (c.requires.scene, (c.requires.stores, conjuncts.part_may K.path K.turns K.decisions K.stands
-        K.ended K.sorts c.args.own.now (take c.args.scene.now) c.args.stores.now c.args.asker.now (star_of c.get.result.now
-        c.get-in-Star.result.now) (formula_of c.args.x.now) (search (rules, views.the_lemmas, folds.the_lemmas))
-        c.requires.ready))))
+    let less : 2 * max (the_size c.get.result.now) (the_size c.get-in-Star.result.now) + 1 < t = omega (
+      arith,
+      one,
+      two,
+      c.decreases,
+    ) in (
+      less,
+      (
+        search rules,
+        (
+          c.requires.scene,
+          (
+            c.requires.stores,
+            conjuncts.part_may K.path K.turns K.decisions K.stands
+                K.ended K.sorts c.args.own.now (take c.args.scene.now) c.args.stores.now c.args.asker.now (star_of
+                c.get.result.now
+                c.get-in-Star.result.now) (formula_of c.args.x.now) (search (rules, views.the_lemmas, folds.the_lemmas))
+                c.requires.ready,
+          ),
+        ),
+      ),
+    )
 
 pub inhale-returns-in-Star-clause-does : goal.inhale-returns-in-Star-clause-does
 inhale-returns-in-Star-clause-does g t c =
     let K = g.K.Asker in
     conjuncts.part_done K.path K.turns K.decisions K.stands K.ended K.sorts c.args.own.now (take c.args.scene.now)
-        c.args.stores.now c.args.asker.now (star_of c.get.result.now c.get-in-Star.result.now) (formula_of c.args.x.now)
-        (search (rules, views.the_lemmas, folds.the_lemmas)) c.inhale_both.result c.inhale_both.new.asker
-        c.inhale_both.new.stores c.inhale_both.ensures.does
+    c.args.stores.now c.args.asker.now (star_of c.get.result.now c.get-in-Star.result.now) (formula_of c.args.x.now)
+    (search (rules, views.the_lemmas, folds.the_lemmas)) c.inhale_both.result c.inhale_both.new.asker
+    c.inhale_both.new.stores c.inhale_both.ensures.does
 
 pub inhale-returns-in-Star-clause-halts : goal.inhale-returns-in-Star-clause-halts
 inhale-returns-in-Star-clause-halts g t c =
     let K = g.K.Asker in
     conjuncts.part_stops K.path K.turns K.decisions K.stands K.ended K.sorts c.args.own.now (take c.args.scene.now)
-        c.args.stores.now c.args.asker.now (star_of c.get.result.now c.get-in-Star.result.now) (formula_of c.args.x.now)
-        (search (rules, views.the_lemmas, folds.the_lemmas)) c.inhale_both.result c.inhale_both.new.asker
-        c.inhale_both.ensures.halts
+    c.args.stores.now c.args.asker.now (star_of c.get.result.now c.get-in-Star.result.now) (formula_of c.args.x.now)
+    (search (rules, views.the_lemmas, folds.the_lemmas)) c.inhale_both.result c.inhale_both.new.asker
+    c.inhale_both.ensures.halts
 
 pub inhale-inhale_when-requires : goal.inhale-inhale_when-requires
 inhale-inhale_when-requires g t c κs within =
     let K = g.K.Asker in
     let one : the_size c.get-in-When.result.now < the_size c.args.x.now = search (rules, views.the_lemmas) in
-    let less : 2 * the_size c.get-in-When.result.now + 1 < t = omega (arith, one, c.decreases) in
-    (less, (search rules, (c.requires.scene, (c.requires.stores, conjuncts.part_may K.path K.turns K.decisions K.stands
-        K.ended K.sorts c.args.own.now (take c.args.scene.now) c.args.stores.now c.args.asker.now (when_of c.in-When.e
-        c.get-in-When.result.now c.in-When.span) (formula_of c.args.x.now) (search (rules, views.the_lemmas,
-        folds.the_lemmas)) c.requires.ready))))
+    let less : 2 * the_size c.get-in-When.result.now + 1 < t = omega (arith, one, c.decreases) in (
+      less,
+      (
+        search rules,
+        (
+          c.requires.scene,
+          (
+            c.requires.stores,
+            conjuncts.part_may K.path K.turns K.decisions K.stands
+                K.ended K.sorts c.args.own.now (take c.args.scene.now) c.args.stores.now c.args.asker.now (when_of c.in-When.e
+                c.get-in-When.result.now c.in-When.span) (formula_of c.args.x.now) (search (
+                  rules,
+                  views.the_lemmas,
+                  folds.the_lemmas,
+                )) c.requires.ready,
+          ),
+        ),
+      ),
+    )
 
 pub inhale-returns-in-When-clause-does : goal.inhale-returns-in-When-clause-does
 inhale-returns-in-When-clause-does g t c =
     let K = g.K.Asker in
     conjuncts.part_done K.path K.turns K.decisions K.stands K.ended K.sorts c.args.own.now (take c.args.scene.now)
-        c.args.stores.now c.args.asker.now (when_of c.in-When.e c.get-in-When.result.now c.in-When.span) (formula_of
-        c.args.x.now) (search (rules, views.the_lemmas, folds.the_lemmas)) c.inhale_when.result c.inhale_when.new.asker
-        c.inhale_when.new.stores c.inhale_when.ensures.does
+    c.args.stores.now c.args.asker.now (when_of c.in-When.e c.get-in-When.result.now c.in-When.span) (formula_of
+    c.args.x.now) (search (rules, views.the_lemmas, folds.the_lemmas)) c.inhale_when.result c.inhale_when.new.asker
+    c.inhale_when.new.stores c.inhale_when.ensures.does
 
 pub inhale-returns-in-When-clause-halts : goal.inhale-returns-in-When-clause-halts
 inhale-returns-in-When-clause-halts g t c =
     let K = g.K.Asker in
     conjuncts.part_stops K.path K.turns K.decisions K.stands K.ended K.sorts c.args.own.now (take c.args.scene.now)
-        c.args.stores.now c.args.asker.now (when_of c.in-When.e c.get-in-When.result.now c.in-When.span) (formula_of
-        c.args.x.now) (search (rules, views.the_lemmas, folds.the_lemmas)) c.inhale_when.result c.inhale_when.new.asker
-        c.inhale_when.ensures.halts
+    c.args.stores.now c.args.asker.now (when_of c.in-When.e c.get-in-When.result.now c.in-When.span) (formula_of
+    c.args.x.now) (search (rules, views.the_lemmas, folds.the_lemmas)) c.inhale_when.result c.inhale_when.new.asker
+    c.inhale_when.ensures.halts
